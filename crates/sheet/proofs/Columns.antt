@@ -121,4 +121,3 @@ blanks-same (suc j) (suc k) xs ys f g e = blanks-same j k xs ys f g (ap (drop 1)
 -- the text behind the blanks is that of the number
 pub behind-blanks : (field r : List ℕ) (z : ℤ) → mag z < 2 ^ 63 → (getD r 0 0 ≡ 32 → ⊥) → field ≡ replicate (length field - length r) 32 ++ r → field ≡ column (length field) (signed z) → r ≡ signed z
 behind-blanks field r z m f e k = blanks-same (length field - length r) (length field - length (signed z)) r (signed z) f (first-signed z m) (sym e ∙ k)
-

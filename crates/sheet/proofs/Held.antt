@@ -94,10 +94,10 @@ said-small (b ∷ t) h =
     ⊎-elim
     (λ e. subst (λ z. mag z < 2 ^ 63) (sym (cond-true (eqb b 32) (said t) _ e)) (said-small t (omega arith)))
     (λ e. subst (λ z. mag z < 2 ^ 63) (sym (cond-false (eqb b 32) (said t) _ e))
-        (⊎-elim
-        (λ f. subst (λ z. mag z < 2 ^ 63) (sym (cond-true (eqb b 45) _ _ f)) (negated (value 10 t) (let v = value-small 0 t in let m = ten-mono (length t) 12 (omega arith) in omega arith)))
-        (λ f. subst (λ z. mag z < 2 ^ 63) (sym (cond-false (eqb b 45) _ _ f)) (let v = value-small 0 (b ∷ t) in let m = ten-mono (length (b ∷ t)) 12 (omega arith) in omega arith))
-        (cases-bool (eqb b 45))))
+    (⊎-elim
+    (λ f. subst (λ z. mag z < 2 ^ 63) (sym (cond-true (eqb b 45) _ _ f)) (negated (value 10 t) (let v = value-small 0 t in let m = ten-mono (length t) 12 (omega arith) in omega arith)))
+    (λ f. subst (λ z. mag z < 2 ^ 63) (sym (cond-false (eqb b 45) _ _ f)) (let v = value-small 0 (b ∷ t) in let m = ten-mono (length (b ∷ t)) 12 (omega arith) in omega arith))
+    (cases-bool (eqb b 45))))
     (cases-bool (eqb b 32))
   where
     negated : (n : ℕ) → n < 2 ^ 63 → mag (negℤ (pos n)) < 2 ^ 63

@@ -1,6 +1,10 @@
+pub mod Maps
 pub mod Ops
 pub mod Numbers
 pub mod Fields
 pub mod Refusals
 pub mod Columns
 pub mod Lines
+pub mod Tiles
+pub mod View
+pub mod Reading

@@ -12,6 +12,7 @@ use Rattle.std.specs.declared.result.Result.{Result}
 use Rattle.std.specs.declared.result.Result.the-variants.{Ok, Err}
 use Rattle.sheet.specs.Columns.{fieldRead}
 use Rattle.sheet.specs.Fields.{widthOf, letterOf, fieldsOf, widths}
+use Rattle.sheet.specs.Maps.{andThen, raised}
 use Rattle.sheet.specs.Numbers.{kindNumbered}
 use Rattle.sheet.specs.Ops.{opNumbered}
 use Rattle.sheet.specs.declared.location.PlainLocation.{PlainLocation}
@@ -27,16 +28,6 @@ use Rattle.sheet.specs.declared.faults.FormFault.{FormFault}
 use Rattle.sheet.specs.declared.faults.FormFault.the-variants.{UnknownLetter, NoLineFeed, WrongLength}
 use Rattle.sheet.specs.declared.faults.LineFault.{LineFault}
 use Rattle.sheet.specs.declared.faults.LineFault.the-variants.{Form, Field as OfField}
-
--- go on with what came, or pass the fault on
-abbrev pub andThen : {X Y E : Type 0} → Result X E → (X → Result Y E) → Result Y E
-andThen (Ok x) f = f x
-andThen (Err e) f = Err e
-
--- a fault as one of the layer above
-abbrev pub raised : {X E F : Type 0} → (E → F) → Result X E → Result X F
-raised f (Ok x) = Ok x
-raised f (Err e) = Err (f e)
 
 -- the numbers in some fields, from the left
 abbrev pub numbersIn : List Field → List ℕ → Result (List ℤ) FieldFault

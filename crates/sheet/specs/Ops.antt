@@ -1,9 +1,9 @@
 -- The ops and their numbers. Assumes nothing.
 use mathlib.Core.List.{List, [], _∷_}
-use mathlib.Core.Bool.{cond}
 use Prim.Native.Nat.{ℕ, zero, suc}
+use Rattle.std.specs.Finite.{nth}
 use Rattle.std.specs.declared.option.Option.{Option}
-use Rattle.std.specs.declared.option.Option.the-variants.{Some, None}
+use Rattle.std.specs.declared.option.Option.the-variants.{None}
 use Rattle.sheet.specs.declared.op.Op.{Op}
 use Rattle.sheet.specs.declared.op.Op.the-variants.{LoadConstant, LoadArgument, LoadLocal, StoreLocal, Pop, Add, Subtract, CompareEqual, CompareLess, Branch, BranchTrue, CallOwn, CallLibrary, Return, Throw, Before, After, Except}
 
@@ -31,12 +31,6 @@ opNumber Throw = 15
 opNumber Before = 16
 opNumber After = 17
 opNumber Except = 18
-
--- what stands at a place of a list, if it is that long
-abbrev pub nth : {X : Type 0} → List X → ℕ → Option X
-nth [] n = None
-nth (x ∷ xs) zero = Some x
-nth (x ∷ xs) (suc n) = nth xs n
 
 -- the op of a number, if there is one
 abbrev pub opNumbered : ℕ → Option Op

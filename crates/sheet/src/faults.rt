@@ -107,8 +107,16 @@ impl SheetFault {
         ensures { λ r. ⌜ r ≡ sheetRefusal self ⌝ }
     {
         match self {
-            SheetFault::Line(line, fault) => Refusal { number: fault.number(), first: line, second: 0 },
-            SheetFault::ShortBuffer => Refusal { number: 5, first: 0, second: 0 },
+            SheetFault::Line(line, fault) => Refusal {
+                number: fault.number(),
+                first: line,
+                second: 0,
+            },
+            SheetFault::ShortBuffer => Refusal {
+                number: 5,
+                first: 0,
+                second: 0,
+            },
         }
     }
 }

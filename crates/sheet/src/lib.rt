@@ -1,7 +1,11 @@
-pub mod location;
-pub mod op;
-pub mod records;
-pub mod fields;
 pub mod faults;
-pub mod number;
+pub mod fields;
 pub mod line;
+pub mod location;
+pub mod number;
+pub mod op;
+pub mod read_sheet;
+pub mod reading;
+pub mod records;
+pub mod storage;
+pub mod stored;

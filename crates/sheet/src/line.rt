@@ -78,7 +78,11 @@ fn read_signature(fields: &[u8]) -> Result<Line, FieldFault>
     let (arguments, rest) = next(fields, Field::Arguments)?;
     let (gives, rest) = next(rest, Field::Gives)?;
     let (watched, _) = next(rest, Field::Watched)?;
-    Ok(Line::Library(Signature { arguments: arguments as u8, gives: gives == 1, watched: watched == 1 }))
+    Ok(Line::Library(Signature {
+        arguments: arguments as u8,
+        gives: gives == 1,
+        watched: watched == 1,
+    }))
 }
 
 // The own method that the fields of an M line declare.
@@ -90,7 +94,12 @@ fn read_shape(fields: &[u8]) -> Result<Line, FieldFault>
     let (gives, rest) = next(rest, Field::Gives)?;
     let (locals, rest) = next(rest, Field::Locals)?;
     let (stack_limit, _) = next(rest, Field::StackLimit)?;
-    Ok(Line::Method(Shape { arguments: arguments as u8, gives: gives == 1, locals: locals as u8, stack_limit: stack_limit as u8 }))
+    Ok(Line::Method(Shape {
+        arguments: arguments as u8,
+        gives: gives == 1,
+        locals: locals as u8,
+        stack_limit: stack_limit as u8,
+    }))
 }
 
 // The instruction of an I line.
@@ -127,7 +136,13 @@ fn read_handler(fields: &[u8]) -> Result<Line, FieldFault>
     let (catch_end, _) = next_location(rest, Field::CatchEnd)?;
     // The field holds 1 or 2, and each of these has its kind.
     let kind = Kind::numbered(number as u8).unwrap_or(Kind::Every);
-    Ok(Line::Handler(Handler { try_begin, try_end, kind, catch_begin, catch_end }))
+    Ok(Line::Handler(Handler {
+        try_begin,
+        try_end,
+        kind,
+        catch_begin,
+        catch_end,
+    }))
 }
 
 // What the fields behind a letter say.

@@ -15,7 +15,7 @@ returns-in-rest-rest c =
     let line = c .args .line .now in
     let h : 0 < length line = omega (arith, ltb-false) in
     parted-unended line (c .in-Some .letter) h (sym (c .of .ensures) ∙ c .in-Some .is) (λ e.
-        elim (c .in-rest-rest .came) [ in-rest-rest·by·then-rest-lt1 w ↦ let n = ap lastByte (nil-from-length (behind line) (omega (arith, ltb-true))) in omega arith | in-rest-rest·by·else-rest-lt1·in-rest· w ↦ search needs ])
+    elim (c .in-rest-rest .came) [ in-rest-rest·by·then-rest-lt1 w ↦ let n = ap lastByte (nil-from-length (behind line) (omega (arith, ltb-true))) in omega arith | in-rest-rest·by·else-rest-lt1·in-rest· w ↦ search needs ])
 
 pub returns-then-fields-columns : need.returns-then-fields-columns
 returns-then-fields-columns c =
