@@ -5,3 +5,10 @@ pub mod Cuts
 pub mod Stores
 pub mod Adds
 pub mod Splits
+pub mod Signs
+pub mod Places
+pub mod Numerals
+pub mod Says
+pub mod Feeds
+pub mod Grows
+pub mod TextLaws

@@ -8,3 +8,7 @@ pub mod Lines
 pub mod Tiles
 pub mod View
 pub mod Reading
+pub mod Text
+pub mod Pieces
+pub mod Bounds
+pub mod Laws

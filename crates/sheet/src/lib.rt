@@ -9,3 +9,4 @@ pub mod reading;
 pub mod records;
 pub mod storage;
 pub mod stored;
+pub mod writing;

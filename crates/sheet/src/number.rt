@@ -88,3 +88,29 @@ pub(crate) fn judge(field: Field, number: Option<i64>) -> Result<i32, FieldFault
     }
     Ok(number as i32)
 }
+
+// Blanks, and a minus behind them where there is to be one.
+fn write_sign(out: &mut [u8], minus: bool)
+    requires { ⌜ (minus ≡ true → 0 < length (now out)) ⌝ }
+    ensures { λ _. ⌜ now (out .exit) ≡ column (length (now (out .entry))) (minusText minus) ⌝ }
+{
+    out.fill(b' ');
+    if minus {
+        let last = out.len() - 1;
+        out[last] = b'-';
+    }
+}
+
+// Writes a number right-justified, with a minus in front where there is to be one.
+pub(crate) fn write_digits(out: &mut [u8], minus: bool, n: u32)
+    requires { ⌜ length (minusText minus ++ decimal n) ≤ length (now out) ⌝ }
+    ensures { λ _. ⌜ now (out .exit) ≡ column (length (now (out .entry))) (minusText minus ++ decimal n) ⌝ }
+{
+    let last = out.len() - 1;
+    out[last] = b'0' + (n % 10) as u8;
+    if n < 10 {
+        write_sign(&mut out[0..last], minus);
+    } else {
+        write_digits(&mut out[0..last], minus, n / 10);
+    }
+}

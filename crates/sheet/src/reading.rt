@@ -6,7 +6,9 @@ ghost use lib.ListN.{length, take, drop};
 ghost use Rattle.std.specs.Results.{Cases};
 ghost use Rattle.std.specs.Vec.{made};
 ghost use Rattle.std.specs.declared.result.Result.the-variants.{Ok, Err};
-ghost use Rattle.sheet.specs.Reading.{none, added, lineTaken, lineLength, reading};
+ghost use Rattle.sheet.specs.Reading.{none, added, lineTaken, lineLength, reading, TextSheet as SheetOfText};
+ghost use Rattle.sheet.specs.Bounds.{inRange};
+ghost use Rattle.sheet.specs.Laws.{OneText};
 ghost use Rattle.sheet.specs.declared.faults.SheetFault.the-variants.{Line as AtLine};
 ghost use Rattle.sheet.specs.declared.records.Line.the-variants.{Library, Method, Instruction, Handler as OfHandler};
 ghost use Rattle.sheet.specs.View.{sheetOf, methodsOf, lastMethod, emptySheet};
@@ -172,14 +174,15 @@ impl ReadSheet {
 
     // Reads a text in the place of what was there. A refused reading leaves the sheet empty.
     pub fn read(&mut self, text: &[u8]) -> Result<(), SheetFault>
-        ensures { λ r. ⌜ Cases r (λ _. reading (now (text .entry)) ≡ Ok (sheetOf (now (self .exit) .stored))) (λ e. (reading (now (text .entry)) ≡ Err e) × (sheetOf (now (self .exit) .stored) ≡ emptySheet)) ⌝ }
+        ensures answer { λ r. ⌜ Cases r (λ _. reading (now (text .entry)) ≡ Ok (sheetOf (now (self .exit) .stored))) (λ e. (reading (now (text .entry)) ≡ Err e) × (sheetOf (now (self .exit) .stored) ≡ emptySheet)) ⌝ }
+        ensures one_text { λ _. ⌜ ((s : SheetOfText) → OneText (now (text .entry)) s) ⌝ }
     {
         fill(&mut self.stored, text)
     }
 
     // The sheet, to look at.
     pub fn contents(&self) -> &TextSheet
-        ensures { λ r. ⌜ now r ≡ now (self .entry) .stored ⌝ }
+        ensures { λ r. ⌜ now r ≡ now (self .entry) .stored ⌝ ∗ ⌜ inRange (sheetOf (now r)) ≡ true ⌝ }
     {
         &self.stored
     }

@@ -113,6 +113,14 @@ impl<I: Copy, H: Copy> StoredSheet<I, H> {
         self.handlers.push_reserved(handler);
     }
 
+    // The own method of this number, which there is, without its instructions and handlers.
+    pub(crate) fn shape_of(&self, method: usize) -> Shape
+        requires { ⌜ method < length (methodsOf (now self)) ⌝ }
+        ensures { λ r. ⌜ r ≡ methodAt (sheetOf (now (self .entry))) method .shape ⌝ }
+    {
+        self.methods[method].shape
+    }
+
     // The own method of this number, without its instructions and handlers.
     pub fn shape(&self, method: usize) -> Option<Shape>
         ensures { λ r. ⌜ r ≡ mapped (λ m. m .shape) (nth (methodsOf (now (self .entry))) method) ⌝ }
