@@ -5,10 +5,8 @@ pub mod Fields
 pub mod Refusals
 pub mod Columns
 pub mod Lines
-pub mod Tiles
 pub mod View
 pub mod Reading
 pub mod Text
-pub mod Pieces
 pub mod Bounds
 pub mod Laws

@@ -1,5 +1,5 @@
 ghost use mathlib.Core.Path.{_≡_};
-ghost use Rattle.sheet.specs.Fields.{widthOf, lowest, highest, letterByte, letterOf};
+ghost use Rattle.sheet.specs.Fields.{widthOf, lowest, highest, letterByte, letterOf, widths, fieldsOf};
 
 // A field of a line, by what it holds.
 #[derive(Clone, Copy)]
@@ -75,6 +75,17 @@ impl Letter {
             Letter::M => b'M',
             Letter::I => b'I',
             Letter::X => b'X',
+        }
+    }
+
+    // How many columns the fields of such a line have together.
+    pub fn columns(self) -> usize
+        ensures { λ r. ⌜ r ≡ widths (fieldsOf self) ⌝ }
+    {
+        match self {
+            Letter::L | Letter::I => 18,
+            Letter::M => 24,
+            Letter::X => 30,
         }
     }
 

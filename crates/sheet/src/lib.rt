@@ -1,12 +1,5 @@
 pub mod faults;
 pub mod fields;
-pub mod line;
 pub mod location;
-pub mod number;
 pub mod op;
-pub mod read_sheet;
-pub mod reading;
 pub mod records;
-pub mod storage;
-pub mod stored;
-pub mod writing;

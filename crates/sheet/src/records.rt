@@ -68,7 +68,7 @@ pub struct Handler<P> {
 
 // What one line of a text says.
 #[derive(Clone, Copy)]
-pub(crate) enum Line {
+pub enum Line {
     Library(Signature),
     Method(Shape),
     Instruction(ReadInstruction),

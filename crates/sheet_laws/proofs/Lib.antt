@@ -1,0 +1,13 @@
+pub mod Columns
+pub mod Held
+pub mod Forms
+pub mod Adds
+pub mod Splits
+pub mod Places
+pub mod Signs
+pub mod Numbering
+pub mod Numerals
+pub mod Says
+pub mod Feeds
+pub mod Grows
+pub mod TextLaws

@@ -1,0 +1,5 @@
+mod line;
+mod number;
+pub mod read_sheet;
+pub mod reading;
+mod writing;
