@@ -68,8 +68,10 @@ module _ {I H : Type 0} (s : StoredSheet I H) where
   pub handlers-none : (k : ℕ) → vec-len (s .methods) ≤ k → between 0 0 (vec-items (s .handlers)) ≡ methodAt (sheetOf s) k .handlers
   handlers-none k h = sym (ap (λ m. m .handlers) (nobody-there k h))
 
-  pub shape-there : (k : ℕ) (d : Header) → k < vec-len (s .methods) → Some (getD (vec-items (s .methods)) k d .shape) ≡ mapped (λ m. m .shape) (nth (methodsOf s) k)
-  shape-there k d h = ap Some (shape-at (vec-items (s .methods)) (vec-items (s .code)) (vec-items (s .handlers)) k d (omega (arith, s .methods .ok .0))) ∙ sym (ap (mapped (λ m. m .shape)) (nth-getD (methodsOf s) k nobody (omega (arith, method-total))))
+  pub shape-there : (hs : List Header) (k : ℕ) (h : Header) → hs ≡ vec-items (s .methods) → k < length hs → h ≡ getD hs k h → Some (h .shape) ≡ mapped (λ m. m .shape) (nth (methodsOf s) k)
+  shape-there hs k h e l is =
+      let ms = cut hs (vec-items (s .code)) (vec-items (s .handlers)) in
+      ap (λ x. Some (x .shape)) is ∙ ap Some (shape-at hs (vec-items (s .code)) (vec-items (s .handlers)) k h l) ∙ sym (ap (mapped (λ m. m .shape)) (nth-getD ms k nobody (omega (arith, cut-length hs (vec-items (s .code)) (vec-items (s .handlers)))))) ∙ ap (λ x. mapped (λ m. m .shape) (nth (cut x (vec-items (s .code)) (vec-items (s .handlers))) k)) e
 
   pub shape-none : (k : ℕ) → vec-len (s .methods) ≤ k → None ≡ mapped (λ m. m .shape) (nth (methodsOf s) k)
   shape-none k h = sym (ap (mapped (λ m. m .shape)) (nth-past (methodsOf s) k (omega (arith, method-total))))

@@ -145,21 +145,17 @@ impl<I: Copy, H: Copy> StoredSheet<I, H> {
     pub fn shape(&self, method: usize) -> Option<Shape>
         ensures { λ r. ⌜ r ≡ mapped (λ m. m .shape) (nth (methodsOf (now (self .entry))) method) ⌝ }
     {
-        if method < self.methods.len() {
-            Some(self.methods[method].shape)
-        } else {
-            None
-        }
+        let header = self.methods.get(method)?;
+        Some(header.shape)
     }
 
     // Where the code of a method begins, or the end of all code behind the last.
     fn code_begin(&self, method: usize) -> usize
         ensures { λ r. ⌜ r ≡ codeBegin (vec-items (now (self .entry) .methods)) method (vec-len (now (self .entry) .code)) ⌝ }
     {
-        if method < self.methods.len() {
-            self.methods[method].first
-        } else {
-            self.code.len()
+        match self.methods.get(method) {
+            Some(header) => header.first,
+            None => self.code.len(),
         }
     }
 
@@ -167,10 +163,9 @@ impl<I: Copy, H: Copy> StoredSheet<I, H> {
     fn handler_begin(&self, method: usize) -> usize
         ensures { λ r. ⌜ r ≡ handlerBegin (vec-items (now (self .entry) .methods)) method (vec-len (now (self .entry) .handlers)) ⌝ }
     {
-        if method < self.methods.len() {
-            self.methods[method].guard
-        } else {
-            self.handlers.len()
+        match self.methods.get(method) {
+            Some(header) => header.guard,
+            None => self.handlers.len(),
         }
     }
 

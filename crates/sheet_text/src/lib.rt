@@ -1,4 +1,5 @@
 mod line;
+pub mod lines;
 mod number;
 pub mod read_sheet;
 pub mod reading;

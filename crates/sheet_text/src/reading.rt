@@ -6,7 +6,7 @@ ghost use lib.ListN.{length, take, drop};
 ghost use Rattle.std.specs.Results.{Cases};
 ghost use Rattle.std.specs.Vec.{made};
 ghost use Rattle.std.specs.declared.result.Result.the-variants.{Ok, Err};
-ghost use Rattle.sheet.specs.Reading.{lineTaken, lineLength, reading, TextSheet as SheetOfText};
+ghost use Rattle.sheet.specs.Reading.{lineTaken, reading, TextSheet as SheetOfText};
 ghost use Rattle.sheet.specs.Bounds.{inRange};
 ghost use Rattle.sheet.specs.Laws.{OneText};
 ghost use Rattle.sheet.specs.declared.faults.SheetFault.the-variants.{Line as AtLine};
@@ -15,6 +15,7 @@ ghost use Rattle.sheet.specs.View.{emptySheet};
 ghost use Rattle.sheet_store.specs.Stored.{sheetOf};
 ghost use Rattle.sheet_text.specs.Taking.{Taken};
 use crate::line::read_line;
+use crate::lines::line_length;
 use crate::read_sheet::ReadSheet;
 use sheet::faults::Counted;
 use sheet::faults::LineFault;
@@ -102,18 +103,6 @@ fn located(taken: Result<(), LineFault>, line: usize) -> Result<(), SheetFault>
         Ok(()) => Ok(()),
         Err(fault) => Err(SheetFault::Line(line, fault)),
     }
-}
-
-// How many bytes the first line has, with its line feed if it has one.
-fn line_length(text: &[u8]) -> usize
-    ensures { λ r. ⌜ r ≡ lineLength (now (text .entry)) ⌝ }
-{
-    for (at, b) in text.iter().enumerate() {
-        if *b == b'\n' {
-            return at + 1;
-        }
-    }
-    text.len()
 }
 
 // Takes all lines of a text, up to the first that is refused.
