@@ -1,0 +1,3 @@
+pub mod Numbered
+pub mod Padded
+pub mod Tallies
