@@ -1,5 +1,6 @@
 pub mod Maps
 pub mod Ops
+pub mod Instructions
 pub mod Numbers
 pub mod Fields
 pub mod Refusals

@@ -1,7 +1,7 @@
 ghost use mathlib.Core.Path.{_≡_};
-ghost use Rattle.sheet.specs.Ops.{opNumber, opNumbered};
+ghost use Rattle.sheet.specs.Ops.{opNumber, opNumbered, opRow, simpleRow, callRow, questionRow};
 
-// What an instruction does; its number in the text of a sheet is one more than its place here.
+// What an instruction does.
 #[derive(Clone, Copy)]
 pub enum Op {
     LoadConstant = 1,
@@ -22,6 +22,64 @@ pub enum Op {
     Before = 16,
     After = 17,
     Except = 18,
+}
+
+// What the operand of an instruction means.
+#[derive(Clone, Copy)]
+pub enum OperandUse {
+    Unused,
+    Number,
+    Argument,
+    Local,
+    Location,
+    OwnMethod,
+    LibraryMethod,
+    WatchedMethod,
+}
+
+// How many values an instruction takes from the stack or leaves there. Where the operand names a method, the
+// arguments and the value of that method count.
+#[derive(Clone, Copy)]
+pub enum Amount {
+    Fixed(u8),
+    Arguments,
+    Gives,
+    ArgumentsAndGives,
+    ArgumentsAndOne,
+    // What the method gives that the instruction stands in, and nothing beside it.
+    OwnGives,
+}
+
+// One row of the table of ops.
+#[derive(Clone, Copy)]
+pub struct OpRow {
+    pub number: u8,
+    pub operand: OperandUse,
+    pub takes: Amount,
+    pub leaves: Amount,
+    // Whether control may go on to the following location.
+    pub falls: bool,
+}
+
+// A row without a method in it, from which control goes on.
+fn simple(number: u8, operand: OperandUse, takes: u8, leaves: u8) -> OpRow
+    ensures { λ r. ⌜ r ≡ simpleRow number operand takes leaves ⌝ }
+{
+    OpRow { number, operand, takes: Amount::Fixed(takes), leaves: Amount::Fixed(leaves), falls: true }
+}
+
+// A call of a method that the operand names.
+fn call(number: u8, operand: OperandUse) -> OpRow
+    ensures { λ r. ⌜ r ≡ callRow number operand ⌝ }
+{
+    OpRow { number, operand, takes: Amount::Arguments, leaves: Amount::Gives, falls: true }
+}
+
+// A question to the policy about a library method.
+fn question(number: u8, takes: Amount) -> OpRow
+    ensures { λ r. ⌜ r ≡ questionRow number takes ⌝ }
+{
+    OpRow { number, operand: OperandUse::WatchedMethod, takes, leaves: Amount::Fixed(0), falls: true }
 }
 
 impl Op {
@@ -55,6 +113,42 @@ impl Op {
             17 => Some(Op::After),
             18 => Some(Op::Except),
             _ => None,
+        }
+    }
+
+    // The row of the op in the table.
+    pub fn row(self) -> OpRow
+        ensures { λ r. ⌜ r ≡ opRow self ⌝ }
+    {
+        match self {
+            Op::LoadConstant => simple(1, OperandUse::Number, 0, 1),
+            Op::LoadArgument => simple(2, OperandUse::Argument, 0, 1),
+            Op::LoadLocal => simple(3, OperandUse::Local, 0, 1),
+            Op::StoreLocal => simple(4, OperandUse::Local, 1, 0),
+            Op::Pop => simple(5, OperandUse::Unused, 1, 0),
+            Op::Add => simple(6, OperandUse::Unused, 2, 1),
+            Op::Subtract => simple(7, OperandUse::Unused, 2, 1),
+            Op::CompareEqual => simple(8, OperandUse::Unused, 2, 1),
+            Op::CompareLess => simple(9, OperandUse::Unused, 2, 1),
+            Op::Branch => OpRow {
+                falls: false,
+                ..simple(10, OperandUse::Location, 0, 0)
+            },
+            Op::BranchTrue => simple(11, OperandUse::Location, 1, 0),
+            Op::CallOwn => call(12, OperandUse::OwnMethod),
+            Op::CallLibrary => call(13, OperandUse::LibraryMethod),
+            Op::Return => OpRow {
+                takes: Amount::OwnGives,
+                falls: false,
+                ..simple(14, OperandUse::Unused, 0, 0)
+            },
+            Op::Throw => OpRow {
+                falls: false,
+                ..simple(15, OperandUse::Unused, 1, 0)
+            },
+            Op::Before => question(16, Amount::Arguments),
+            Op::After => question(17, Amount::ArgumentsAndGives),
+            Op::Except => question(18, Amount::ArgumentsAndOne),
         }
     }
 }

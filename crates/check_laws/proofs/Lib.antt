@@ -1,0 +1,4 @@
+pub mod Means
+pub mod Complete
+pub mod Codes
+pub mod Method

@@ -1,0 +1,5 @@
+use Rattle.check_laws.proofs.Method.{check-law}
+use Rattle.check_laws.proofs.check_law_stands.Needs as need
+
+pub returns : need.returns
+returns c = check-law

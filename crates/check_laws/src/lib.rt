@@ -1,0 +1,10 @@
+// The law of the check: it stands in the contract of a function, so that the check asks for its proof.
+ghost use Rattle.check_rules.specs.CheckLaws.{CheckLaw};
+
+// A method is checked exactly when it cannot go wrong: it has an instruction and at most 256 cells, every operand and every
+// handler suits it, and one depth for each location fits all its instructions and comes from below.
+pub fn check_law_stands() -> u8
+    ensures { λ _. ⌜ CheckLaw ⌝ }
+{
+    0
+}

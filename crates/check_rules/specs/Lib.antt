@@ -1,0 +1,9 @@
+pub mod CheckRefusals
+pub mod Ranges
+pub mod Effects
+pub mod Places
+pub mod Coding
+pub mod Depths
+pub mod Meaning
+pub mod Check
+pub mod CheckLaws

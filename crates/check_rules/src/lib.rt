@@ -1,0 +1,4 @@
+pub mod around;
+pub mod effect;
+pub mod faults;
+pub mod ranges;
