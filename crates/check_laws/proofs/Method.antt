@@ -65,7 +65,7 @@ catch-facts limit n x e =
     let g = leb-true _ _ (h .1) in
     (omega arith, ltb-true 0 _ (c .0), ltb-true 0 limit (d .1))
 
-catches-within : (limit n : ℕ) (xs : List (Handler PlainLocation)) → All (λ x. handles limit n x ≡ true) xs → All (λ b. b < n) (catches xs)
+pub catches-within : (limit n : ℕ) (xs : List (Handler PlainLocation)) → All (λ x. handles limit n x ≡ true) xs → All (λ b. b < n) (catches xs)
 catches-within limit n [] w = tt
 catches-within limit n (x ∷ xs) w = (catch-facts limit n x (w .0) .0, catches-within limit n xs (w .1))
 

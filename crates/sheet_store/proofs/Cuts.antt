@@ -13,6 +13,7 @@ use Rattle.std.proofs.shelf.Tests.{and-parts, and-from, leb-true, le-leb}
 use Rattle.std.specs.Holes.{between}
 use Rattle.sheet_store.specs.Tiles.{ordered, codeStart, handlerStart}
 use Rattle.sheet.specs.View.{Method, onLast, pushed, bare, instructionsIn, handlersIn, withCode, withHandlers, nobody, lastMethod}
+use Rattle.sheet_store.specs.Adding.{whole}
 use Rattle.sheet_store.specs.Stored.{rest, upto, cut, lastOf, codeBegin, handlerBegin}
 use Rattle.sheet_store.specs.declared.stored.Header.{Header}
 use Rattle.sheet.specs.declared.records.Shape.{Shape}
@@ -242,3 +243,28 @@ last-method [] c x l = absurd (omega arith)
 last-method (p ∷ []) c x l = refl
 last-method (p ∷ (q ∷ [])) c x l = refl
 last-method (p ∷ (q ∷ (r ∷ hs))) c x l = last-method (q ∷ (r ∷ hs)) c x (omega arith)
+
+-- a whole method more, behind all
+pub whole-added : {I H : Type 0} (hs : List Header) (h : Header) (c is : List I) (x ys : List H) → ordered hs (length c) (length x) ≡ true → h .first ≡ length c → h .guard ≡ length x → cut (hs ++ h ∷ []) (c ++ is) (x ++ ys) ≡ pushed (whole (h .shape) is ys) (cut hs c x)
+whole-added [] h c is x ys o a b = let u = drop-at c is (h .first) (sym a) in let v = drop-at x ys (h .guard) (sym b) in cc
+whole-added (p ∷ []) h c is x ys o a b =
+    let t = and-parts _ _ o in
+    let r = whole-added [] h c is x ys refl a b in
+    let m = leb-true (p .first) (length c) (t .0) in
+    let n = leb-true (p .guard) (length x) (t .1) in
+    let u = ap (λ j. between (p .first) j (c ++ is)) a ∙ between-same (p .first) (length c) (length c) c (c ++ is) m (omega arith) (take-append-le (length c) c is (omega arith)) ∙ take-rest c (p .first) in
+    let v = ap (λ j. between (p .guard) j (x ++ ys)) b ∙ between-same (p .guard) (length x) (length x) x (x ++ ys) n (omega arith) (take-append-le (length x) x ys (omega arith)) ∙ take-rest x (p .guard) in
+    ahead (p .shape) u v r
+whole-added (p ∷ (q ∷ hs)) h c is x ys o a b =
+    let t = three _ _ _ o in
+    let m = leb-true (p .first) (q .first) (t .0) in
+    let n = leb-true (p .guard) (q .guard) (t .1) in
+    let f = first-within q hs (length c) (length x) (t .2) in
+    let g = guard-within q hs (length c) (length x) (t .2) in
+    let r = whole-added (q ∷ hs) h c is x ys (t .2) a b in
+    ahead (p .shape) (between-same (p .first) (q .first) (length c) c (c ++ is) m f (take-append-le (length c) c is (omega arith))) (between-same (p .guard) (q .guard) (length x) x (x ++ ys) n g (take-append-le (length x) x ys (omega arith))) r
+
+pub start-grown : (hs : List Header) (h : Header) (n g n′ g′ : ℕ) → codeStart hs n ≡ 0 → handlerStart hs g ≡ 0 → h .first ≡ n → h .guard ≡ g → (codeStart (hs ++ h ∷ []) n′ ≡ 0) × (handlerStart (hs ++ h ∷ []) g′ ≡ 0)
+start-grown [] h n g n′ g′ a b p q = (omega arith, omega arith)
+start-grown (k ∷ hs) h n g n′ g′ a b p q = (a, b)
+

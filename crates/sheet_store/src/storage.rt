@@ -1,16 +1,17 @@
 // What can be done with a stored sheet: made, emptied, added to at its end, looked at.
 ghost use mathlib.Core.Path.{_≡_};
+ghost use mathlib.Core.List.{[], _++_};
 ghost use Prim.Native.Nat.{ℕ, _+_, _<_, _≤_};
 ghost use lib.ListN.{length};
 ghost use Rattle.std.specs.Holes.{between};
-ghost use Rattle.std.specs.Of.Vec.{vec-len, vec-items};
+ghost use Rattle.std.specs.Of.Vec.{vec-len, vec-items, vec-cap};
 ghost use Rattle.std.specs.Results.{Cases};
 ghost use Rattle.std.specs.Vec.{made};
 ghost use Rattle.std.specs.Options.{mapped};
 ghost use Rattle.std.specs.Finite.{nth};
 ghost use Rattle.sheet.specs.View.{emptySheet, withLibrary, withMethods, onLast, withCode, withHandlers, pushed, bare, instructionsIn, handlersIn, methodAt, lastMethod};
 ghost use Rattle.sheet.specs.Reading.{none};
-ghost use Rattle.sheet_store.specs.Adding.{AddRefused};
+ghost use Rattle.sheet_store.specs.Adding.{AddRefused, NoRoom, whole};
 ghost use Rattle.sheet_store.specs.Stored.{sheetOf, methodsOf, codeBegin, handlerBegin};
 use crate::stored::AddFault;
 use crate::stored::Header;
@@ -131,6 +132,39 @@ impl<I: Copy, H: Copy> StoredSheet<I, H> {
         Ok(())
     }
 
+    // One own method more, with its instructions and handlers; a sheet that has no place for them is left as it is.
+    pub fn add_whole(&mut self, shape: Shape, code: &[I], handlers: &[H]) -> Result<(), AddFault>
+        ensures { λ r. ⌜ Cases r (λ _. sheetOf (now (self .exit)) ≡ withMethods (pushed (whole shape (now (code .entry)) (now (handlers .entry))) (methodsOf (now (self .entry)))) (sheetOf (now (self .entry)))) (λ e. (e ≡ AddFault.Full) × NoRoom (methodsOf (now (self .entry))) (length (now (code .entry))) (length (now (handlers .entry))) × (now (self .exit) ≡ now (self .entry))) ⌝ }
+    {
+        if self.methods.len() >= 16 {
+            return Err(AddFault::Full);
+        }
+        if code.len() > 2048 - self.code.len() {
+            return Err(AddFault::Full);
+        }
+        if handlers.len() > 256 - self.handlers.len() {
+            return Err(AddFault::Full);
+        }
+        let first = self.code.len();
+        let guard = self.handlers.len();
+        self.methods.push_reserved(Header { shape, first, guard });
+        fill_reserved(&mut self.code, code);
+        fill_reserved(&mut self.handlers, handlers);
+        Ok(())
+    }
+
+    // Empty but for this library; a library that is too large leaves the sheet as it is.
+    pub fn restart(&mut self, library: &[Signature]) -> Result<(), AddFault>
+        ensures { λ r. ⌜ Cases r (λ _. sheetOf (now (self .exit)) ≡ record { library = now (library .entry); methods = [] }) (λ e. (e ≡ AddFault.Full) × (32 < length (now (library .entry))) × (now (self .exit) ≡ now (self .entry))) ⌝ }
+    {
+        if library.len() > 32 {
+            return Err(AddFault::Full);
+        }
+        self.clear();
+        fill_reserved(&mut self.library, library);
+        Ok(())
+    }
+
     // Whether the last method has no handler; true where there is no method.
     pub fn last_has_no_handler(&self) -> bool
         ensures { λ r. ⌜ r ≡ none (lastMethod (methodsOf (now (self .entry))) .handlers) ⌝ }
@@ -205,5 +239,15 @@ impl<I: Copy, H: Copy> StoredSheet<I, H> {
     {
         let (begin, end) = self.handler_part(method);
         &self.handlers[begin..end]
+    }
+}
+
+// Adds a block behind all; there is memory for it.
+fn fill_reserved<T: Copy>(list: &mut Vec<T>, block: &[T])
+    requires { ⌜ vec-len (now list) + length (now block) ≤ vec-cap (now list) ⌝ }
+    ensures { λ _. ⌜ vec-cap (now (list .exit)) ≡ vec-cap (now (list .entry)) ⌝ ∗ ⌜ vec-items (now (list .exit)) ≡ vec-items (now (list .entry)) ++ now (block .entry) ⌝ ∗ ⌜ vec-len (now (list .exit)) ≡ vec-len (now (list .entry)) + length (now (block .entry)) ⌝ }
+{
+    for x in block {
+        list.push_reserved(*x);
     }
 }

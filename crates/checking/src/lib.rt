@@ -1,0 +1,4 @@
+pub mod check;
+pub mod checked;
+mod coding;
+mod method;
