@@ -45,24 +45,24 @@ module _ (D : ℕ → ℕ) (N K : ℕ) where
   put-on : (ds : Depths) (next : ℕ) → next < N → Agrees ds → Onto ds (set ds next (Some (D next)))
   put-on ds next lt a =
       let n = a .long in
-      record
-        { fine =
-            record
-              { agrees =
+      record {
+        fine =
+            record {
+              agrees =
                   λ l d h.
-                    elim (cases-eq l next)
-                      [ inl q ↦ ap D q ∙ some-is (sym (getD-set-same ds next (Some (D next)) None (omega arith)) ∙ ap (λ k. getD (set ds next (Some (D next))) k None) (sym q) ∙ h)
-                      | inr q ↦ a .agrees l d (sym (getD-set-other ds next l (Some (D next)) None q) ∙ h)
-                      ]
-              ; long = length-set ds next (Some (D next)) ∙ n
-              }
-        ; keeps =
+                  elim (cases-eq l next) [
+                    | inl q ↦ ap D q ∙ some-is (sym (getD-set-same ds next (Some (D next)) None (omega arith)) ∙ ap (λ k. getD (set ds next (Some (D next))) k None) (sym q) ∙ h)
+                    | inr q ↦ a .agrees l d (sym (getD-set-other ds next l (Some (D next)) None q) ∙ h)
+                  ];
+              long = length-set ds next (Some (D next)) ∙ n;
+            };
+        keeps =
             λ l d h.
-              elim (cases-eq l next)
-                [ inl q ↦ ap (λ k. getD (set ds next (Some (D next))) k None) q ∙ getD-set-same ds next (Some (D next)) None (omega arith) ∙ ap Some (ap D (sym q) ∙ a .agrees l d h)
-                | inr q ↦ getD-set-other ds next l (Some (D next)) None q ∙ h
-                ]
-        }
+            elim (cases-eq l next) [
+              | inl q ↦ ap (λ k. getD (set ds next (Some (D next))) k None) q ∙ getD-set-same ds next (Some (D next)) None (omega arith) ∙ ap Some (ap D (sym q) ∙ a .agrees l d h)
+              | inr q ↦ getD-set-other ds next l (Some (D next)) None q ∙ h
+            ];
+      }
 
   stay : (ds : Depths) → Agrees ds → Onto ds ds
   stay ds a = record { fine = a; keeps = λ l d h. h }
@@ -132,19 +132,19 @@ module _ (D : ℕ → ℕ) (N K : ℕ) where
       let f = if-got (r .falls) (at + 1) after ds1 (s .goes-on) (o .fine) in
       let j = to-got (r .jump) after (f .es) (s .goes-to) (f .onto .fine) in
       let b = before-is at ds (getD ds at None) refl a w in
-      record
-        { es = j .es
-        ; is =
+      record {
+        es = j .es;
+        is =
             ap (λ x. cond (ltb x (r .takes)) None (cond (r .exact && ltb (r .takes) x) None (cond (ltb K (x - r .takes + r .leaves)) None (then (giveIf (r .falls) (at + 1) (x - r .takes + r .leaves) (set ds at (Some x))) (giveTo (r .jump) (x - r .takes + r .leaves)))))) b
-              ∙ ap (λ t. cond t None (cond (r .exact && ltb (r .takes) (D at)) None (cond (ltb K after) None (then (giveIf (r .falls) (at + 1) after ds1) (giveTo (r .jump) after))))) (le-ltb (D at) (r .takes) (s .enough))
-              ∙ ap (λ t. cond t None (cond (ltb K after) None (then (giveIf (r .falls) (at + 1) after ds1) (giveTo (r .jump) after)))) (exact-fine (r .exact) (r .takes) (D at) (s .exact))
-              ∙ ap (λ t. cond t None (then (giveIf (r .falls) (at + 1) after ds1) (giveTo (r .jump) after))) (le-ltb K after (s .fits))
-              ∙ ap (λ t. then t (giveTo (r .jump) after)) (f .is)
-              ∙ j .is
-        ; onto = record { fine = j .onto .fine; keeps = λ l d h. j .onto .keeps l d (f .onto .keeps l d (o .keeps l d h)) }
-        ; on = λ t. j .onto .keeps (at + 1) (D (at + 1)) (f .there t ∙ ap Some (sym (s .goes-on t .1)))
-        ; to = λ t q. j .there t q ∙ ap Some (sym (s .goes-to t q .1))
-        }
+            ∙ ap (λ t. cond t None (cond (r .exact && ltb (r .takes) (D at)) None (cond (ltb K after) None (then (giveIf (r .falls) (at + 1) after ds1) (giveTo (r .jump) after))))) (le-ltb (D at) (r .takes) (s .enough))
+            ∙ ap (λ t. cond t None (cond (ltb K after) None (then (giveIf (r .falls) (at + 1) after ds1) (giveTo (r .jump) after)))) (exact-fine (r .exact) (r .takes) (D at) (s .exact))
+            ∙ ap (λ t. cond t None (then (giveIf (r .falls) (at + 1) after ds1) (giveTo (r .jump) after))) (le-ltb K after (s .fits))
+            ∙ ap (λ t. then t (giveTo (r .jump) after)) (f .is)
+            ∙ j .is;
+        onto = record { fine = j .onto .fine; keeps = λ l d h. j .onto .keeps l d (f .onto .keeps l d (o .keeps l d h)) };
+        on = λ t. j .onto .keeps (at + 1) (D (at + 1)) (f .there t ∙ ap Some (sym (s .goes-on t .1)));
+        to = λ t q. j .there t q ∙ ap Some (sym (s .goes-to t q .1));
+      }
 
   -- a location of depth 0, or that has its depth already, or gets it from below
   abbrev pub Ready : List Effect → ℕ → Depths → ℕ → Type 0
@@ -162,9 +162,9 @@ module _ (D : ℕ → ℕ) (N K : ℕ) where
   still-ready : (r : Effect) (rs : List Effect) (at : ℕ) (ds : Depths) (v : Visited r at ds) (l : ℕ) → Ready (r ∷ rs) at ds l → Ready rs (at + 1) (v .es) l
   still-ready r rs at ds v l (inl z) = inl z
   still-ready r rs at ds v l (inr (inl q)) = inr (inl (v .onto .keeps l (D l) q))
-  still-ready r rs at ds v l (inr (inr (h , inl (inl (f , e))))) = inr (inl (subst (λ k. getD (v .es) k None ≡ Some (D k)) e (v .on f)))
-  still-ready r rs at ds v l (inr (inr (h , inl (inr j)))) = inr (inl (v .to l j))
-  still-ready r rs at ds v l (inr (inr (h , inr w))) = inr (inr w)
+  still-ready r rs at ds v l (inr (inr (h, inl (inl (f, e))))) = inr (inl (subst (λ k. getD (v .es) k None ≡ Some (D k)) e (v .on f)))
+  still-ready r rs at ds v l (inr (inr (h, inl (inr j)))) = inr (inl (v .to l j))
+  still-ready r rs at ds v l (inr (inr (h, inr w))) = inr (inr w)
 
   -- A TYPED METHOD WHOSE DEPTHS COME FROM BELOW PASSES THE SWEEP
   pub sweep-passes : (rows : List Effect) (at : ℕ) (ds : Depths) → at + length rows ≡ N → Good rows at → Agrees ds → ((l : ℕ) → at ≤ l → l < N → Ready rows at ds l) → (es : Depths) × (swept rows at K ds ≡ Ok es)

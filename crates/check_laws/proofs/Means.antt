@@ -51,21 +51,21 @@ some-is e = cc
 -- a depth written where there was none, or the same
 put : (K : ℕ) (ds : Depths) (next d : ℕ) → next < length ds → d ≤ K → ((e : ℕ) → getD ds next None ≡ Some e → e ≡ d) → Step K ds (set ds next (Some d))
 put K ds next d lt le same =
-    record
-      { keeps =
+    record {
+      keeps =
           λ l e h.
-            elim (cases-eq l next)
-              [ inl q ↦ (let r = same e (ap (λ k. getD ds k None) (sym q) ∙ h) in ap (λ k. getD (set ds next (Some d)) k None) q ∙ getD-set-same ds next (Some d) None lt ∙ ap Some (sym r))
-              | inr q ↦ getD-set-other ds next l (Some d) None q ∙ h
-              ]
-      ; low =
+          elim (cases-eq l next) [
+            | inl q ↦ (let r = same e (ap (λ k. getD ds k None) (sym q) ∙ h) in ap (λ k. getD (set ds next (Some d)) k None) q ∙ getD-set-same ds next (Some d) None lt ∙ ap Some (sym r))
+            | inr q ↦ getD-set-other ds next l (Some d) None q ∙ h
+          ];
+      low =
           λ w l e h.
-            elim (cases-eq l next)
-              [ inl q ↦ (let p : d ≡ e = some-is (sym (getD-set-same ds next (Some d) None lt) ∙ ap (λ k. getD (set ds next (Some d)) k None) (sym q) ∙ h) in omega arith)
-              | inr q ↦ w l e (sym (getD-set-other ds next l (Some d) None q) ∙ h)
-              ]
-      ; long = length-set ds next (Some d)
-      }
+          elim (cases-eq l next) [
+            | inl q ↦ (let p : d ≡ e = some-is (sym (getD-set-same ds next (Some d) None lt) ∙ ap (λ k. getD (set ds next (Some d)) k None) (sym q) ∙ h) in omega arith)
+            | inr q ↦ w l e (sym (getD-set-other ds next l (Some d) None q) ∙ h)
+          ];
+      long = length-set ds next (Some d);
+    }
 
 agreed-step : (K next d : ℕ) (ds es : Depths) (o : Option ℕ) → getD ds next None ≡ o → next < length ds → d ≤ K → agreed next d ds o ≡ Some es → Step K ds es × (getD es next None ≡ Some d)
 agreed-step K next d ds es None n lt le e =
@@ -100,27 +100,28 @@ cond-some false o es e = (refl, e)
 
 exactly : (r : Effect) (before : ℕ) → (r .exact && ltb (r .takes) before) ≡ false → r .takes ≤ before → r .exact ≡ true → before ≡ r .takes
 exactly r before e le t =
-    elim (and-cases (r .exact) (ltb (r .takes) before) e)
-      [ inl f ↦ absurd (false≢true (sym f ∙ t))
+    elim (and-cases (r .exact) (ltb (r .takes) before) e) [
+      | inl f ↦ absurd (false≢true (sym f ∙ t))
       | inr f ↦ (let h = ltb-false (r .takes) before f in omega arith)
-      ]
+    ]
 
 passing : (K at before : ℕ) (r : Effect) (ds ds1 es : Depths) → Step K ds ds1 → getD ds1 at None ≡ Some before → before ≤ K → r .takes ≤ before → before - r .takes + r .leaves ≤ K → (r .exact ≡ true → before ≡ r .takes) → (m : Option Depths) → giveIf (r .falls) (at + 1) (before - r .takes + r .leaves) ds1 ≡ m → then m (giveTo (r .jump) (before - r .takes + r .leaves)) ≡ Some es → Step K ds es × Sound K es r at
 passing K at before r ds ds1 es s h w en fi ex None g e = no-depths e
 passing K at before r ds ds1 es s h w en fi ex (Some ds2) g e =
     let a = give-if K (r .falls) (at + 1) (before - r .takes + r .leaves) ds1 ds2 fi g in
-    let b = give-to K (r .jump) (before - r .takes + r .leaves) ds2 es fi e in
-    ( after-step s (after-step (a .0) (b .0))
-    , record
-        { depth = before
-        ; here = b .0 .keeps at before (a .0 .keeps at before h)
-        ; within = w
-        ; enough = en
-        ; fits = fi
-        ; goes-on = λ t. b .0 .keeps (at + 1) (before - r .takes + r .leaves) (a .1 t)
-        ; goes-to = b .1
-        ; exact = ex
-        } )
+    let b = give-to K (r .jump) (before - r .takes + r .leaves) ds2 es fi e in (
+      after-step s (after-step (a .0) (b .0)),
+      record {
+        depth = before;
+        here = b .0 .keeps at before (a .0 .keeps at before h);
+        within = w;
+        enough = en;
+        fits = fi;
+        goes-on = λ t. b .0 .keeps (at + 1) (before - r .takes + r .leaves) (a .1 t);
+        goes-to = b .1;
+        exact = ex;
+      },
+    )
 
 started : (K at : ℕ) (ds : Depths) → Low K ds → (o : Option ℕ) → getD ds at None ≡ o → (valueOr o 0 ≤ K) × ((f : ℕ) → getD ds at None ≡ Some f → f ≡ valueOr o 0)
 started K at ds low None h = (omega arith, λ f q. not-both (sym h ∙ q))
@@ -139,16 +140,16 @@ visit-means K at r ds es lt low e =
 
 sound-kept : {K at : ℕ} {r : Effect} {ds es : Depths} → Step K ds es → Sound K ds r at → Sound K es r at
 sound-kept {at = at} {r = r} s w =
-    record
-      { depth = w .depth
-      ; here = s .keeps at (w .depth) (w .here)
-      ; within = w .within
-      ; enough = w .enough
-      ; fits = w .fits
-      ; goes-on = λ t. s .keeps (at + 1) _ (w .goes-on t)
-      ; goes-to = λ t q. s .keeps t _ (w .goes-to t q)
-      ; exact = w .exact
-      }
+    record {
+      depth = w .depth;
+      here = s .keeps at (w .depth) (w .here);
+      within = w .within;
+      enough = w .enough;
+      fits = w .fits;
+      goes-on = λ t. s .keeps (at + 1) _ (w .goes-on t);
+      goes-to = λ t q. s .keeps t _ (w .goes-to t q);
+      exact = w .exact;
+    }
 
 not-ok : {A X : Type 0} {a : A} {n : ℕ} → _≡_ {A = Result A ℕ} (Err n) (Ok a) → X
 not-ok e = absurd (let z : _≡_ {A = ℕ} 0 1 = cc in omega arith)
@@ -179,17 +180,18 @@ caught-one [] ds b lt h = h
 caught-one (c ∷ bs) ds b lt h =
     let n = length-set ds c (Some 1) in
     caught-one bs (set ds c (Some 1)) b (omega arith)
-      (elim (cases-eq b c)
-        [ inl q ↦ ap (λ k. getD (set ds c (Some 1)) k None) q ∙ getD-set-same ds c (Some 1) None (let z = q in omega arith)
-        | inr q ↦ getD-set-other ds c b (Some 1) None q ∙ h
-        ])
+    (elim (cases-eq b c) [
+      | inl q ↦ ap (λ k. getD (set ds c (Some 1)) k None) q ∙ getD-set-same ds c (Some 1) None (let z = q in omega arith)
+      | inr q ↦ getD-set-other ds c b (Some 1) None q ∙ h
+    ])
 
 pub caught-all : (bs : List ℕ) (ds : Depths) → All (λ b. b < length ds) bs → All (λ b. getD (caught bs ds) b None ≡ Some 1) bs
 caught-all [] ds w = tt
 caught-all (b ∷ bs) ds w =
-    let n = length-set ds b (Some 1) in
-    ( caught-one bs (set ds b (Some 1)) b (omega (arith, w .0)) (getD-set-same ds b (Some 1) None (w .0))
-    , caught-all bs (set ds b (Some 1)) (subst (λ k. All (λ c. c < k) bs) (sym n) (w .1)) )
+    let n = length-set ds b (Some 1) in (
+      caught-one bs (set ds b (Some 1)) b (omega (arith, w .0)) (getD-set-same ds b (Some 1) None (w .0)),
+      caught-all bs (set ds b (Some 1)) (subst (λ k. All (λ c. c < k) bs) (sym n) (w .1)),
+    )
 
 pub caught-zero : (bs : List ℕ) (ds : Depths) → All (λ b. 0 < b) bs → getD ds 0 None ≡ Some 0 → getD (caught bs ds) 0 None ≡ Some 0
 caught-zero [] ds w h = h
@@ -200,11 +202,11 @@ caught-low K [] ds w o low = low
 caught-low K (b ∷ bs) ds w o low =
     let n = length-set ds b (Some 1) in
     caught-low K bs (set ds b (Some 1)) (subst (λ k. All (λ c. c < k) bs) (sym n) (w .1)) (o .1)
-      (λ l e h.
-        elim (cases-eq l b)
-          [ inl q ↦ (let p : 1 ≡ e = some-is (sym (getD-set-same ds b (Some 1) None (w .0)) ∙ ap (λ k. getD (set ds b (Some 1)) k None) (sym q) ∙ h) in let z = o .0 in omega arith)
-          | inr q ↦ low l e (sym (getD-set-other ds b l (Some 1) None q) ∙ h)
-          ])
+    (λ l e h.
+    elim (cases-eq l b) [
+      | inl q ↦ (let p : 1 ≡ e = some-is (sym (getD-set-same ds b (Some 1) None (w .0)) ∙ ap (λ k. getD (set ds b (Some 1)) k None) (sym q) ∙ h) in let z = o .0 in omega arith)
+      | inr q ↦ low l e (sym (getD-set-other ds b l (Some 1) None q) ∙ h)
+    ])
 
 pub caught-length : (bs : List ℕ) (ds : Depths) → length (caught bs ds) ≡ length ds
 caught-length [] ds = refl
@@ -230,11 +232,11 @@ pass-means K n rows bs es ln inside above one e =
     let lc : length (begun bs (suc n)) ≡ suc n = caught-length bs base ∙ (lb ∙ lr) in
     let within = subst (λ k. All (λ b. b < k) bs) (sym (lb ∙ lr)) inside in
     let w = sweep-means K rows 0 (begun bs (suc n)) es (omega arith) (caught-low K bs base within one (none-low K (suc n))) e in
-    record
-      { begins = w .0 .keeps 0 0 (caught-zero bs base above refl)
-      ; sound = λ at r h q. (let z : 0 + at ≡ at = omega arith in subst (λ k. Sound K es r k) z (w .1 at r h q))
-      ; caught = kept (w .0) bs (caught-all bs base within)
-      }
+    record {
+      begins = w .0 .keeps 0 0 (caught-zero bs base above refl);
+      sound = λ at r h q. (let z : 0 + at ≡ at = omega arith in subst (λ k. Sound K es r k) z (w .1 at r h q));
+      caught = kept (w .0) bs (caught-all bs base within);
+    }
   where
     kept : {ds : Depths} → Step K ds es → (cs : List ℕ) → All (λ b. getD ds b None ≡ Some 1) cs → All (λ b. getD es b None ≡ Some 1) cs
     kept s [] w = tt
@@ -284,18 +286,21 @@ unknown-above at l ds k n = elim (cases-lt l at) [ inl h ↦ (let p = k l h in n
 passing-origin : (at before : ℕ) (r : Effect) (ds1 es : Depths) → Known (at + 1) ds1 → (m : Option Depths) → giveIf (r .falls) (at + 1) (before - r .takes + r .leaves) ds1 ≡ m → then m (giveTo (r .jump) (before - r .takes + r .leaves)) ≡ Some es → (l x : ℕ) → getD es l None ≡ Some x → (getD ds1 l None ≡ Some x) ⊎ ((at < l) × Leads r at l)
 passing-origin at before r ds1 es k None g e l x h = no-depths e
 passing-origin at before r ds1 es k (Some ds2) g e l x h =
-    elim (to-origin (r .jump) (before - r .takes + r .leaves) ds2 es e l x h)
-      [ inl p ↦ from-if p
+    elim (to-origin (r .jump) (before - r .takes + r .leaves) ds2 es e l x h) [
+      | inl p ↦ from-if p
       | inr p ↦ elim (opt (getD ds1 l None) refl) [ inl q ↦ absurd (clash (q .1) (p .1)) | inr n ↦ inr ((let w = unknown-above (at + 1) l ds1 k n in omega arith), inr (p .0)) ]
-      ]
+    ]
   where
     from-if : getD ds2 l None ≡ Some x → (getD ds1 l None ≡ Some x) ⊎ ((at < l) × Leads r at l)
     from-if p = elim (if-origin (r .falls) (at + 1) (before - r .takes + r .leaves) ds1 ds2 g l x p) [ inl q ↦ inl q | inr q ↦ inr ((let z = q .1 in omega arith), inl (q .0, sym (q .1))) ]
+
     opt : (o : Option ℕ) → getD ds1 l None ≡ o → ((d : ℕ) × (getD ds1 l None ≡ Some d)) ⊎ (getD ds1 l None ≡ None)
     opt None e = inr e
     opt (Some d) e = inl (d, e)
+
     keeps-if : (b : Bool) (next d : ℕ) (d1 d2 : Depths) → giveIf b next d d1 ≡ Some d2 → (y : ℕ) → getD d1 l None ≡ Some y → getD d2 l None ≡ Some y
     keeps-if b next d d1 d2 e y q = give-if d b next d d1 d2 (omega arith) e .0 .keeps l y q
+
     clash : {y : ℕ} → getD ds1 l None ≡ Some y → getD ds2 l None ≡ None → ⊥
     clash {y} q n = not-both (sym n ∙ keeps-if (r .falls) (at + 1) (before - r .takes + r .leaves) ds1 ds2 g y q)
 
@@ -305,10 +310,10 @@ at-origin at l x ds (Some y) n q e = inr (ap (λ k. getD ds k None) q ∙ n ∙ 
 
 known-set : (at before : ℕ) (ds : Depths) → at < length ds → Known at ds → Known (at + 1) (set ds at (Some before))
 known-set at before ds lt k l h =
-    elim (cases-eq l at)
-      [ inl q ↦ (before, ap (λ j. getD (set ds at (Some before)) j None) q ∙ getD-set-same ds at (Some before) None lt)
+    elim (cases-eq l at) [
+      | inl q ↦ (before, ap (λ j. getD (set ds at (Some before)) j None) q ∙ getD-set-same ds at (Some before) None lt)
       | inr q ↦ (let p = k l (omega arith) in (p .0, getD-set-other ds at l (Some before) None q ∙ p .1))
-      ]
+    ]
 
 visit-origin : (K at : ℕ) (r : Effect) (ds es : Depths) → at < length ds → Known at ds → visited r at K ds ≡ Some es → (l x : ℕ) → getD es l None ≡ Some x → (x ≡ 0) ⊎ ((getD ds l None ≡ Some x) ⊎ ((at < l) × Leads r at l))
 visit-origin K at r ds es lt k e l x h =
@@ -316,25 +321,25 @@ visit-origin K at r ds es lt k e l x h =
     let a = cond-some (ltb before (r .takes)) _ es e in
     let b = cond-some (r .exact && ltb (r .takes) before) _ es (a .1) in
     let c = cond-some (ltb K (before - r .takes + r .leaves)) _ es (b .1) in
-    elim (passing-origin at before r (set ds at (Some before)) es (known-set at before ds lt k) _ refl (c .1) l x h)
-      [ inl p ↦
-          elim (set-origin ds at before l x p)
-            [ inl q ↦ inr (inl q)
+    elim (passing-origin at before r (set ds at (Some before)) es (known-set at before ds lt k) _ refl (c .1) l x h) [
+      | inl p ↦
+          elim (set-origin ds at before l x p) [
+            | inl q ↦ inr (inl q)
             | inr q ↦
-                elim (at-origin at l x ds (getD ds at None) refl q (some-is (sym (getD-set-same ds at (Some before) None lt) ∙ ap (λ j. getD (set ds at (Some before)) j None) (sym q) ∙ p)))
-                  [ inl z ↦ inl z
+                elim (at-origin at l x ds (getD ds at None) refl q (some-is (sym (getD-set-same ds at (Some before) None lt) ∙ ap (λ j. getD (set ds at (Some before)) j None) (sym q) ∙ p))) [
+                  | inl z ↦ inl z
                   | inr z ↦ inr (inl z)
-                  ]
-            ]
+                ]
+          ]
       | inr p ↦ inr (inr p)
-      ]
+    ]
 
 known-next : (K at : ℕ) (r : Effect) (ds es : Depths) → Known at ds → Step K ds es → Sound K es r at → Known (at + 1) es
 known-next K at r ds es k s w l h =
-    elim (cases-eq l at)
-      [ inl q ↦ (w .depth, ap (λ j. getD es j None) q ∙ w .here)
+    elim (cases-eq l at) [
+      | inl q ↦ (w .depth, ap (λ j. getD es j None) q ∙ w .here)
       | inr q ↦ (let p = k l (omega arith) in (p .0, s .keeps l (p .0) (p .1)))
-      ]
+    ]
 
 from-below-above : (rs : List Effect) (at l : ℕ) → FromBelow rs at l → at < l
 from-below-above [] at l w = absurd w
@@ -351,11 +356,11 @@ sweep-origin K (r ∷ rows) at ds es n low k e l x h = by-visit (λ d1 a b c f. 
         let lt : at < length ds = omega arith in
         let v = visit-means K at r ds d1 lt low g in
         let ln = v .0 .long in
-        elim (again d1 (omega arith) (v .0 .low low) (known-next K at r ds d1 k (v .0) (v .1)) e)
-          [ inl z ↦ inl z
+        elim (again d1 (omega arith) (v .0 .low low) (known-next K at r ds d1 k (v .0) (v .1)) e) [
+          | inl z ↦ inl z
           | inr (inl q) ↦ elim (visit-origin K at r ds d1 lt k g l x q) [ inl z ↦ inl z | inr (inl p) ↦ inr (inl p) | inr (inr p) ↦ inr (inr (p .0, inl (p .1))) ]
           | inr (inr w) ↦ inr (inr ((let a = from-below-above rows (at + 1) l w in omega arith), inr w))
-          ]
+        ]
 
 -- a typing alone does not pass: br 2; ret; ldc; br 1 has the depths 0 1 0 1, but location 1 is taken before it has one
 abbrev pub plainly : (t l : ℕ) (f x : Bool) → Option ℕ → Effect

@@ -102,14 +102,14 @@ caught-origin [] ds l x e = inl e
 caught-origin (b ∷ bs) ds l x e =
     ⊎-elim
     (λ h.
-        ⊎-elim
-        (λ q.
-            ⊎-elim
-            (λ inside. inr (sym (some-is (sym (getD-set-same ds b (Some 1) None inside) ∙ ap (λ k. getD (set ds b (Some 1)) k None) (sym q) ∙ h)), inl q))
-            (λ past. absurd (let n = length-set ds b (Some 1) in no-some (sym (getD-past (set ds b (Some 1)) l None (omega arith)) ∙ h)))
-            (cases-lt b (length ds)))
-        (λ q. inl (sym (getD-set-other ds b l (Some 1) None q) ∙ h))
-        (cases-eq l b))
+    ⊎-elim
+    (λ q.
+    ⊎-elim
+    (λ inside. inr (sym (some-is (sym (getD-set-same ds b (Some 1) None inside) ∙ ap (λ k. getD (set ds b (Some 1)) k None) (sym q) ∙ h)), inl q))
+    (λ past. absurd (let n = length-set ds b (Some 1) in no-some (sym (getD-past (set ds b (Some 1)) l None (omega arith)) ∙ h)))
+    (cases-lt b (length ds)))
+    (λ q. inl (sym (getD-set-other ds b l (Some 1) None q) ∙ h))
+    (cases-eq l b))
     (λ w. inr (w .0, inr (w .1)))
     (caught-origin bs (set ds b (Some 1)) l x e)
 
@@ -189,9 +189,10 @@ module _ (limit : ℕ) (fs : List Effect) (bs : List ℕ) (within : All (λ b. b
   good : (rs : List Effect) (at : ℕ) → at + length rs ≡ length fs → ((k : ℕ) (r : Effect) → k < length rs → r ≡ getD rs k r → Sits depth (length fs) limit r (at + k)) → Good depth (length fs) limit rs at
   good [] at n each = tt
   good (r ∷ rs) at n each =
-      let z : at + 0 ≡ at = omega arith in
-      ( subst (λ k. Sits depth (length fs) limit r k) z (each 0 r (omega arith) refl)
-      , good rs (at + 1) (omega arith) (λ k x h q. (let s : at + suc k ≡ at + 1 + k = omega arith in subst (λ j. Sits depth (length fs) limit x j) s (each (suc k) x (omega arith) q))) )
+      let z : at + 0 ≡ at = omega arith in (
+        subst (λ k. Sits depth (length fs) limit r k) z (each 0 r (omega arith) refl),
+        good rs (at + 1) (omega arith) (λ k x h q. (let s : at + suc k ≡ at + 1 + k = omega arith in subst (λ j. Sits depth (length fs) limit x j) s (each (suc k) x (omega arith) q))),
+      )
 
   caught-depth : (cs : List ℕ) → All (λ b. getD ds b None ≡ Some 1) cs → (l : ℕ) → Among l cs → depth l ≡ 1
   caught-depth [] w l m = absurd m

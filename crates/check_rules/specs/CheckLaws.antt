@@ -1,4 +1,4 @@
--- What the check of a method means. Assumes nothing.
+-- What the check of a method, and of a sheet, means. Assumes nothing.
 use mathlib.Core.Bool.{true}
 use mathlib.Core.List.{List, map}
 use mathlib.Core.Logic.{_⊎_}
@@ -8,10 +8,11 @@ use lib.ListN.{length, getD}
 use Rattle.std.specs.declared.option.Option.the-variants.{Some, None}
 use Rattle.std.specs.declared.result.Result.the-variants.{Ok}
 use Rattle.std.specs.shelf.Lists.{All}
+use Rattle.sheet.specs.Reading.{TextSheet}
 use Rattle.sheet.specs.declared.location.PlainLocation.{PlainLocation}
 use Rattle.sheet.specs.declared.records.Shape.{Shape}
 use Rattle.sheet.specs.declared.records.Signature.{Signature}
-use Rattle.check_rules.specs.Check.{ReadMethod, CheckedMethod, catches, effects, placeIn, methodChecked, methodEncoded}
+use Rattle.check_rules.specs.Check.{ReadMethod, CheckedMethod, CheckedForm, catches, effects, placeIn, methodChecked, methodEncoded, shapesOf, checked, sheetEncoded}
 use Rattle.check_rules.specs.Coding.{decoded, encoded}
 use Rattle.check_rules.specs.Depths.{Depths}
 use Rattle.check_rules.specs.Effects.{Place}
@@ -46,3 +47,12 @@ pub record MethodLaw (library : List Signature) (shapes : List Shape) (m : Check
 
 abbrev pub CheckLaw : Type 0
 CheckLaw = (library : List Signature) (shapes : List Shape) (m : CheckedMethod) → MethodLaw library shapes m
+
+-- no method of a sheet can go wrong
+abbrev pub AllPassed : CheckedForm → Type 0
+AllPassed s = All (Passed (s .library) (shapesOf (s .methods))) (s .methods)
+
+-- a sheet is checked exactly when it has a method and none that can go wrong; and it is the one that was read
+pub record SheetLaw (s : CheckedForm) : Type 0 where
+  pub means : (r : TextSheet) → checked r ≡ Ok s → (sheetEncoded s ≡ r) × (0 < length (s .methods)) × AllPassed s
+  pub passes : 0 < length (s .methods) → AllPassed s → checked (sheetEncoded s) ≡ Ok s

@@ -25,9 +25,18 @@ pub struct Effect {
     pub jump: Option<u16>,
 }
 
-const NO_SIGNATURE: Signature = Signature { arguments: 0, gives: false, watched: false };
+const NO_SIGNATURE: Signature = Signature {
+    arguments: 0,
+    gives: false,
+    watched: false,
+};
 
-const NO_SHAPE: Shape = Shape { arguments: 0, gives: false, locals: 0, stack_limit: 0 };
+const NO_SHAPE: Shape = Shape {
+    arguments: 0,
+    gives: false,
+    locals: 0,
+    stack_limit: 0,
+};
 
 // The library method of this number, or one without arguments and value where there is none.
 pub fn signature_at(library: &[Signature], index: u8) -> Signature
@@ -56,9 +65,16 @@ fn named_method(around: Around<'_>, operand_use: OperandUse, index: u8) -> Signa
     match operand_use {
         OperandUse::OwnMethod => {
             let shape = shape_at(around.shapes, index);
-            Signature { arguments: shape.arguments, gives: shape.gives, watched: false }
+            Signature {
+                arguments: shape.arguments,
+                gives: shape.gives,
+                watched: false,
+            }
         }
-        OperandUse::LibraryMethod | OperandUse::WatchedMethod => signature_at(around.library, index),
+        OperandUse::LibraryMethod | OperandUse::WatchedMethod => signature_at(
+            around.library,
+            index,
+        ),
         _ => NO_SIGNATURE,
     }
 }

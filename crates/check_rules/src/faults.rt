@@ -25,7 +25,11 @@ impl CheckFault {
         ensures { λ r. ⌜ r ≡ checkRefusal self ⌝ }
     {
         match self {
-            CheckFault::NoMethod => Refusal { number: 6, first: 0, second: 0 },
+            CheckFault::NoMethod => Refusal {
+                number: 6,
+                first: 0,
+                second: 0,
+            },
             CheckFault::Method(method, fault) => fault.refusal(method),
         }
     }
@@ -37,11 +41,31 @@ impl MethodFault {
         ensures { λ r. ⌜ r ≡ methodRefusal method self ⌝ }
     {
         match self {
-            MethodFault::NoInstruction => Refusal { number: 7, first: method, second: 0 },
-            MethodFault::TooManyCells => Refusal { number: 8, first: method, second: 0 },
-            MethodFault::Operand(location) => Refusal { number: 9, first: method, second: location },
-            MethodFault::Handler(handler) => Refusal { number: 10, first: method, second: handler },
-            MethodFault::Depth(location) => Refusal { number: 11, first: method, second: location },
+            MethodFault::NoInstruction => Refusal {
+                number: 7,
+                first: method,
+                second: 0,
+            },
+            MethodFault::TooManyCells => Refusal {
+                number: 8,
+                first: method,
+                second: 0,
+            },
+            MethodFault::Operand(location) => Refusal {
+                number: 9,
+                first: method,
+                second: location,
+            },
+            MethodFault::Handler(handler) => Refusal {
+                number: 10,
+                first: method,
+                second: handler,
+            },
+            MethodFault::Depth(location) => Refusal {
+                number: 11,
+                first: method,
+                second: location,
+            },
         }
     }
 }

@@ -14,7 +14,8 @@ fn holds_within(begin: PlainLocation, end: PlainLocation, count: u16) -> bool
 fn are_apart(handler: Handler<PlainLocation>) -> bool
     ensures { λ r. ⌜ r ≡ apart handler ⌝ }
 {
-    handler.try_end.number() <= handler.catch_begin.number() || handler.catch_end.number() <= handler.try_begin.number()
+    handler.try_end.number() <= handler.catch_begin.number()
+        || handler.catch_end.number() <= handler.try_begin.number()
 }
 
 // Whether a handler suits a method with this stack limit and so many instructions.

@@ -16,17 +16,19 @@ use Rattle.std.specs.declared.result.Result.the-variants.{Ok, Err}
 use Rattle.std.proofs.shelf.Lists.{append-assoc, append-nil, at-drop-more, at-drop-all, getD-default, getD-map, length-map, length-push, length-replicate, length-take-le, take-all, take-append-drop, take-more, take-more-set}
 use Rattle.std.proofs.shelf.Maps.{nth-getD}
 use Rattle.sheet.specs.Maps.{andThen, raised}
-use Rattle.sheet.specs.View.{Method, nobody, noShape, instructionsIn, handlersIn}
+use Rattle.sheet.specs.Reading.{TextSheet}
+use Rattle.sheet.specs.View.{Method, emptySheet, nobody, noShape, instructionsIn, handlersIn}
 use Rattle.sheet.specs.declared.location.PlainLocation.{PlainLocation}
 use Rattle.sheet.specs.declared.records.Handler.{Handler}
 use Rattle.sheet.specs.declared.records.ReadInstruction.{ReadInstruction}
 use Rattle.sheet.specs.declared.records.Shape.{Shape}
 use Rattle.sheet.specs.declared.records.Signature.{Signature}
-use Rattle.check_rules.specs.Check.{ReadMethod, CheckedMethod, CheckedForm, methodChecked, methodsChecked, methodEncoded, shapesOf}
+use Rattle.check_rules.specs.Check.{ReadMethod, CheckedMethod, CheckedForm, checked, methodChecked, methodsChecked, methodEncoded, shapesOf}
 use Rattle.check_rules.specs.Coding.{encoded}
 use Rattle.check_rules.specs.Places.{plain}
 use Rattle.check_laws.proofs.Method.{method-means}
-use Rattle.checking.specs.Methods.{Grown}
+use Rattle.check_laws.proofs.Sheet.{each-checked, sheet-law}
+use Rattle.checking.specs.Methods.{Grown, AllChecked}
 use Rattle.check_rules.specs.declared.faults.CheckFault.{CheckFault}
 use Rattle.check_rules.specs.declared.faults.CheckFault.the-variants.{Method as InMethod}
 use Rattle.check_rules.specs.declared.faults.MethodFault.{MethodFault}
@@ -136,3 +138,12 @@ located-err (Err f) x k e P Q l c h = let same : InMethod k f ≡ e = cc in (f, 
 -- the same answer over equal shapes
 pub with-shapes : (library : List Signature) (xs ys : List Shape) (m : ReadMethod) (s t : CheckedForm) (r : Result (Unit {0}) MethodFault) → xs ≡ ys → Cases r (λ _. Grown library xs m s t) (λ e. methodChecked library xs m ≡ Err e) → Cases r (λ _. Grown library ys m s t) (λ e. methodChecked library ys m ≡ Err e)
 with-shapes library xs ys m s t r e = subst (λ zs. Cases r (λ _. Grown library zs m s t) (λ e. methodChecked library zs m ≡ Err e)) e
+
+-- what the check leaves in a sheet passes it
+pub left-checked : (r : Result (Unit {0}) CheckFault) (read : TextSheet) (s : CheckedForm) → Cases r (λ _. checked read ≡ Ok s) (λ e. (checked read ≡ Err e) × (s ≡ emptySheet)) → AllChecked s
+left-checked (Ok u) read s c = each-checked (s .library) (shapesOf (s .methods)) (s .methods) (sheet-law s .means read c .2)
+left-checked (Err e) read s c = subst AllChecked (sym (c .1)) refl
+
+-- the same answer for an equal sheet
+pub for-equal : (r : Result (Unit {0}) CheckFault) (a b : TextSheet) (s : CheckedForm) → a ≡ b → Cases r (λ _. checked a ≡ Ok s) (λ e. (checked a ≡ Err e) × (s ≡ emptySheet)) → Cases r (λ _. checked b ≡ Ok s) (λ e. (checked b ≡ Err e) × (s ≡ emptySheet))
+for-equal r a b s e = subst (λ x. Cases r (λ _. checked x ≡ Ok s) (λ e. (checked x ≡ Err e) × (s ≡ emptySheet))) e

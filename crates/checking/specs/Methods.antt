@@ -1,9 +1,10 @@
 -- What a checked sheet is, and how it grows. Assumes nothing.
-use mathlib.Core.List.{List, map}
+use mathlib.Core.List.{List}
 use mathlib.Core.Path.{_≡_}
 use mathlib.Core.Bool.{true}
 use Rattle.std.specs.Results.{isOk}
 use Rattle.std.specs.declared.result.Result.the-variants.{Ok}
+use Rattle.sheet.specs.Bounds.{every}
 use Rattle.sheet.specs.Reading.{TextSheet}
 use Rattle.sheet.specs.View.{Method, withMethods, pushed}
 use Rattle.sheet.specs.declared.records.Shape.{Shape}
@@ -16,7 +17,7 @@ methodOf s is xs = record { shape = s; code = is; handlers = xs }
 
 -- every method of a sheet, as a text has it, passes the check
 abbrev pub AllChecked : CheckedForm → Type 0
-AllChecked s = isOk (methodsChecked (s .library) (shapesOf (s .methods)) 0 (map methodEncoded (s .methods))) ≡ true
+AllChecked s = every (λ c. isOk (methodChecked (s .library) (shapesOf (s .methods)) (methodEncoded c))) (s .methods) ≡ true
 
 -- one method more, which is what the check makes of a read one
 pub record Grown (library : List Signature) (shapes : List Shape) (r : ReadMethod) (before after : CheckedForm) : Type 0 where

@@ -78,7 +78,11 @@ fn as_location(number: i32, count: u16) -> Option<Operand<PlainLocation>>
 }
 
 // What a number means as an operand of this use.
-fn operand(around: Around<'_>, operand_use: OperandUse, number: i32) -> Option<Operand<PlainLocation>>
+fn operand(
+    around: Around<'_>,
+    operand_use: OperandUse,
+    number: i32,
+) -> Option<Operand<PlainLocation>>
     requires { ⌜ length (now (around .library)) ≤ 32 ⌝ }
     requires { ⌜ length (now (around .shapes)) ≤ 16 ⌝ }
     ensures { λ r. ⌜ r ≡ meaning (placeOf (around .entry)) «operand_use» number ⌝ }
@@ -96,7 +100,10 @@ fn operand(around: Around<'_>, operand_use: OperandUse, number: i32) -> Option<O
 }
 
 // The instruction that a read one is, if its operand means something.
-pub(crate) fn decode(read: ReadInstruction, around: Around<'_>) -> Option<Instruction<PlainLocation>>
+pub(crate) fn decode(
+    read: ReadInstruction,
+    around: Around<'_>,
+) -> Option<Instruction<PlainLocation>>
     requires { ⌜ length (now (around .library)) ≤ 32 ⌝ }
     requires { ⌜ length (now (around .shapes)) ≤ 16 ⌝ }
     ensures { λ r. ⌜ r ≡ decoded (placeOf (around .entry)) read ⌝ }

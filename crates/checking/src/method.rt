@@ -25,7 +25,11 @@ use sheet::records::Handler;
 use sheet::records::ReadInstruction;
 
 // Decodes all instructions of a method into a lent list; an error names the first whose operand means nothing.
-fn decode_all(read: &[ReadInstruction], around: Around<'_>, out: &mut [Instruction<PlainLocation>]) -> Result<(), usize>
+fn decode_all(
+    read: &[ReadInstruction],
+    around: Around<'_>,
+    out: &mut [Instruction<PlainLocation>],
+) -> Result<(), usize>
     requires { ⌜ length (now (around .library)) ≤ 32 ⌝ }
     requires { ⌜ length (now (around .shapes)) ≤ 16 ⌝ }
     requires { ⌜ length (now read) ≡ length (now out) ⌝ }
@@ -41,7 +45,11 @@ fn decode_all(read: &[ReadInstruction], around: Around<'_>, out: &mut [Instructi
 }
 
 // That all handlers of a method suit it; an error names the first that does not.
-fn handlers_suit(handlers: &[Handler<PlainLocation>], stack_limit: u8, count: u16) -> Result<(), usize>
+fn handlers_suit(
+    handlers: &[Handler<PlainLocation>],
+    stack_limit: u8,
+    count: u16,
+) -> Result<(), usize>
     ensures { λ r. ⌜ r ≡ handledFrom «stack_limit» count 0 (now (handlers .entry)) ⌝ }
 {
     for (at, handler) in handlers.iter().enumerate() {
@@ -78,7 +86,12 @@ fn lead_to(depths: &mut [Option<u16>], next: usize, depth: u16) -> Result<(), De
 }
 
 // Takes one location.
-fn visit(effect: Effect, at: usize, stack_limit: u8, depths: &mut [Option<u16>]) -> Result<(), DepthFails>
+fn visit(
+    effect: Effect,
+    at: usize,
+    stack_limit: u8,
+    depths: &mut [Option<u16>],
+) -> Result<(), DepthFails>
     requires { ⌜ at < length (now depths) ⌝ }
     ensures { λ r. ⌜ Cases r (λ _. visited effect at «stack_limit» (now (depths .entry)) ≡ Some (now (depths .exit))) (λ _. visited effect at «stack_limit» (now (depths .entry)) ≡ None) ⌝ }
 {
@@ -105,12 +118,21 @@ fn visit(effect: Effect, at: usize, stack_limit: u8, depths: &mut [Option<u16>])
 }
 
 // Takes all locations upward; an error names the first at which the depths fail.
-fn sweep(code: &[Instruction<PlainLocation>], around: Around<'_>, depths: &mut [Option<u16>]) -> Result<(), usize>
+fn sweep(
+    code: &[Instruction<PlainLocation>],
+    around: Around<'_>,
+    depths: &mut [Option<u16>],
+) -> Result<(), usize>
     requires { ⌜ length (now code) ≡ length (now depths) ⌝ }
     ensures { λ r. ⌜ Cases r (λ _. swept (effects (placeOf (around .entry)) (now (code .entry))) 0 (around .entry .own .«stack_limit») (now (depths .entry)) ≡ Ok (now (depths .exit))) (λ at. swept (effects (placeOf (around .entry)) (now (code .entry))) 0 (around .entry .own .«stack_limit») (now (depths .entry)) ≡ Err at) ⌝ }
 {
     for (at, instruction) in code.iter().enumerate() {
-        if let Err(_) = visit(effect_of(*instruction, around), at, around.own.stack_limit, depths) {
+        if let Err(_) = visit(
+            effect_of(*instruction, around),
+            at,
+            around.own.stack_limit,
+            depths,
+        ) {
             return Err(at);
         }
     }
@@ -129,7 +151,12 @@ fn mark_catches(handlers: &[Handler<PlainLocation>], depths: &mut [Option<u16>])
 }
 
 // Finds the depths of a method, in a list that has 0 at location 0 and nothing else; an error names the first location that fails.
-fn find_depths(code: &[Instruction<PlainLocation>], handlers: &[Handler<PlainLocation>], around: Around<'_>, depths: &mut [Option<u16>]) -> Result<(), usize>
+fn find_depths(
+    code: &[Instruction<PlainLocation>],
+    handlers: &[Handler<PlainLocation>],
+    around: Around<'_>,
+    depths: &mut [Option<u16>],
+) -> Result<(), usize>
     requires { ⌜ length (now code) ≡ length (now depths) ⌝ }
     requires { ⌜ now depths ≡ set (replicate (length (now code)) None) 0 (Some 0) ⌝ }
     requires { ⌜ All (λ b. b < length (now depths)) (catches (now handlers)) ⌝ }
@@ -140,7 +167,11 @@ fn find_depths(code: &[Instruction<PlainLocation>], handlers: &[Handler<PlainLoc
 }
 
 // Whether the depths of a method agree; an error names the first location at which they do not.
-fn depths_agree(code: &[Instruction<PlainLocation>], handlers: &[Handler<PlainLocation>], around: Around<'_>) -> Result<(), usize>
+fn depths_agree(
+    code: &[Instruction<PlainLocation>],
+    handlers: &[Handler<PlainLocation>],
+    around: Around<'_>,
+) -> Result<(), usize>
     requires { ⌜ length (now code) ≤ 2048 ⌝ }
     requires { ⌜ All (λ b. b < length (now code)) (catches (now handlers)) ⌝ }
     ensures { λ r. ⌜ Cases r (λ _. isOk (depthsOf (placeOf (around .entry)) (now (code .entry)) (now (handlers .entry))) ≡ true) (λ at. depthsOf (placeOf (around .entry)) (now (code .entry)) (now (handlers .entry)) ≡ Err at) ⌝ }
@@ -151,7 +182,12 @@ fn depths_agree(code: &[Instruction<PlainLocation>], handlers: &[Handler<PlainLo
 }
 
 // Checks one method and leaves its instructions in a lent list.
-pub(crate) fn check_method(read: &[ReadInstruction], handlers: &[Handler<PlainLocation>], around: Around<'_>, out: &mut [Instruction<PlainLocation>]) -> Result<(), MethodFault>
+pub(crate) fn check_method(
+    read: &[ReadInstruction],
+    handlers: &[Handler<PlainLocation>],
+    around: Around<'_>,
+    out: &mut [Instruction<PlainLocation>],
+) -> Result<(), MethodFault>
     requires { ⌜ length (now (around .library)) ≤ 32 ⌝ }
     requires { ⌜ length (now (around .shapes)) ≤ 16 ⌝ }
     requires { ⌜ length (now read) ≡ length (now out) ⌝ }

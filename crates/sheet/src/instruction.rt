@@ -74,7 +74,9 @@ impl<P: Copy> Instruction<P> {
             | Instruction::Before(index)
             | Instruction::After(index)
             | Instruction::Except(index) => Operand::Index(index),
-            Instruction::Branch(target) | Instruction::BranchTrue(target) => Operand::Location(target),
+            Instruction::Branch(target) | Instruction::BranchTrue(target) => Operand::Location(
+                target,
+            ),
             Instruction::Pop
             | Instruction::Add
             | Instruction::Subtract

@@ -65,21 +65,39 @@ pub struct OpRow {
 fn simple(number: u8, operand: OperandUse, takes: u8, leaves: u8) -> OpRow
     ensures { λ r. ⌜ r ≡ simpleRow number operand takes leaves ⌝ }
 {
-    OpRow { number, operand, takes: Amount::Fixed(takes), leaves: Amount::Fixed(leaves), falls: true }
+    OpRow {
+        number,
+        operand,
+        takes: Amount::Fixed(takes),
+        leaves: Amount::Fixed(leaves),
+        falls: true,
+    }
 }
 
 // A call of a method that the operand names.
 fn call(number: u8, operand: OperandUse) -> OpRow
     ensures { λ r. ⌜ r ≡ callRow number operand ⌝ }
 {
-    OpRow { number, operand, takes: Amount::Arguments, leaves: Amount::Gives, falls: true }
+    OpRow {
+        number,
+        operand,
+        takes: Amount::Arguments,
+        leaves: Amount::Gives,
+        falls: true,
+    }
 }
 
 // A question to the policy about a library method.
 fn question(number: u8, takes: Amount) -> OpRow
     ensures { λ r. ⌜ r ≡ questionRow number takes ⌝ }
 {
-    OpRow { number, operand: OperandUse::WatchedMethod, takes, leaves: Amount::Fixed(0), falls: true }
+    OpRow {
+        number,
+        operand: OperandUse::WatchedMethod,
+        takes,
+        leaves: Amount::Fixed(0),
+        falls: true,
+    }
 }
 
 impl Op {

@@ -267,4 +267,3 @@ whole-added (p ∷ (q ∷ hs)) h c is x ys o a b =
 pub start-grown : (hs : List Header) (h : Header) (n g n′ g′ : ℕ) → codeStart hs n ≡ 0 → handlerStart hs g ≡ 0 → h .first ≡ n → h .guard ≡ g → (codeStart (hs ++ h ∷ []) n′ ≡ 0) × (handlerStart (hs ++ h ∷ []) g′ ≡ 0)
 start-grown [] h n g n′ g′ a b p q = (omega arith, omega arith)
 start-grown (k ∷ hs) h n g n′ g′ a b p q = (a, b)
-

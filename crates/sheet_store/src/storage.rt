@@ -147,7 +147,11 @@ impl<I: Copy, H: Copy> StoredSheet<I, H> {
         }
         let first = self.code.len();
         let guard = self.handlers.len();
-        self.methods.push_reserved(Header { shape, first, guard });
+        self.methods.push_reserved(Header {
+            shape,
+            first,
+            guard,
+        });
         fill_reserved(&mut self.code, code);
         fill_reserved(&mut self.handlers, handlers);
         Ok(())

@@ -43,7 +43,7 @@ returns g c =
     let X = vec-items (s .handlers) in
     let hs = vec-items (s .methods) in
     ap (λ ms. withMethods ms (sheetOf s))
-      ( ap (λ ks. cut ks (vec-items (c .fill-reserved .last .list)) (vec-items (c .fill-reserved-2 .last .list))) (c .push-reserved .ensures .items)
-        ∙ ap (λ y. cut (hs ++ h ∷ []) y (vec-items (c .fill-reserved-2 .last .list))) (c .fill-reserved .ensures .1 .0)
-        ∙ ap (λ y. cut (hs ++ h ∷ []) (C ++ c .args .code .now) y) (c .fill-reserved-2 .ensures .1 .0)
-        ∙ whole-added hs h C (c .args .code .now) X (c .args .handlers .now) (tiled-lengths s) (c .len-first .ensures ∙ s .code .ok .0) (c .len-guard .ensures ∙ s .handlers .ok .0) )
+    (ap (λ ks. cut ks (vec-items (c .fill-reserved .last .list)) (vec-items (c .fill-reserved-2 .last .list))) (c .push-reserved .ensures .items)
+    ∙ ap (λ y. cut (hs ++ h ∷ []) y (vec-items (c .fill-reserved-2 .last .list))) (c .fill-reserved .ensures .1 .0)
+    ∙ ap (λ y. cut (hs ++ h ∷ []) (C ++ c .args .code .now) y) (c .fill-reserved-2 .ensures .1 .0)
+    ∙ whole-added hs h C (c .args .code .now) X (c .args .handlers .now) (tiled-lengths s) (c .len-first .ensures ∙ s .code .ok .0) (c .len-guard .ensures ∙ s .handlers .ok .0))
