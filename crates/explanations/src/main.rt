@@ -1,5 +1,6 @@
 // Prints the report on the text of each case of a table, behind the comment of the case.
 use cases::first_case;
+use checking::checked::CheckedSheet;
 use sheet_text::read_sheet::ReadSheet;
 use std::io;
 use std::io::Read;
@@ -8,11 +9,16 @@ use vetting::report::report;
 // More bytes than the table has.
 const MOST_BYTES: u64 = 1_000_000;
 
-fn print_reports(rt: &LibcRuntime, sheet: &mut ReadSheet, table: &[u8]) -> io::Result<()> {
+fn print_reports(
+    rt: &LibcRuntime,
+    sheet: &mut ReadSheet,
+    checked: &mut CheckedSheet,
+    table: &[u8],
+) -> io::Result<()> {
     let mut rest = table;
     while let Some(case) = first_case(rest) {
         let comment = case.comment.escape_ascii();
-        let told = report(rt.alloc(), sheet, case.text)?;
+        let told = report(rt.alloc(), sheet, checked, case.text)?;
         println!(rt, "== {comment}")?;
         print!(rt, "{told}")?;
         rest = case.behind;
@@ -25,5 +31,6 @@ fn main(rt: LibcRuntime) -> io::Result<()> {
     let mut table = Vec::new(heap);
     rt.stdin().take(MOST_BYTES).read_to_end(&mut table)?;
     let mut sheet = ReadSheet::new(heap)?;
-    print_reports(&rt, &mut sheet, table.as_slice())
+    let mut checked = CheckedSheet::new(heap)?;
+    print_reports(&rt, &mut sheet, &mut checked, table.as_slice())
 }

@@ -1,4 +1,5 @@
-// Reads a sheet from standard input and says what was read, or what is wrong with which line.
+// Reads a sheet from standard input, checks it, and says what was read, or what is wrong with which line or method.
+use checking::checked::CheckedSheet;
 use sheet_text::read_sheet::ReadSheet;
 use std::io;
 use std::io::Read;
@@ -12,6 +13,7 @@ fn main(rt: LibcRuntime) -> io::Result<()> {
     let mut text = Vec::new(heap);
     rt.stdin().take(MOST_BYTES).read_to_end(&mut text)?;
     let mut sheet = ReadSheet::new(heap)?;
-    let told = report(heap, &mut sheet, text.as_slice())?;
+    let mut checked = CheckedSheet::new(heap)?;
+    let told = report(heap, &mut sheet, &mut checked, text.as_slice())?;
     print!(rt, "{told}")
 }

@@ -1,4 +1,4 @@
-// What is told of a sheet behind the words "The sheet reads".
+// What is told of a sheet behind the words "The sheet passes".
 ghost use mathlib.Core.Path.{_≡_};
 ghost use Rattle.vetting.specs.Watched.{watchedIn};
 use crate::words::Amount;
