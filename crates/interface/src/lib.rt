@@ -1,0 +1,4 @@
+pub mod answers;
+pub mod entry;
+pub mod parties;
+pub mod value;
