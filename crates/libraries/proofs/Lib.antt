@@ -1,2 +1,5 @@
 mod Joins
 mod PageKeeps
+mod Sorted
+mod Scan
+mod Positions

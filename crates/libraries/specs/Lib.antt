@@ -1,3 +1,5 @@
 pub mod Arguments
 pub mod Page
 pub mod PageLaws
+pub mod Index
+pub mod Places

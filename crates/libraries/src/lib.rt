@@ -1,1 +1,3 @@
+pub mod binding;
+pub mod index;
 pub mod page;
