@@ -18,6 +18,7 @@ use Rattle.interface.specs.declared.answers.LibraryAnswer.the-variants.{Return,
 use Rattle.std.proofs.shelf.Lists.{length-set, getD-set-same, getD-set-other, places, take-at, drop-at, drop-more, take-append-drop, length-take-le, append-assoc}
 use Rattle.std.proofs.shelf.Signed.{ints}
 use Rattle.std.proofs.shelf.Tests.{cond-both, cond-true, ltb-true, and-parts, not-true, lt-ltb, cases-bool}
+use Rattle.libraries.proofs.Answered.{no-return, same-is}
 use Rattle.libraries.specs.Arguments.{Step, raise, done, same, withOne, withTwo}
 use Rattle.libraries.specs.Page.{codeAt, readAt, putCode, putAt, joined, hyphenated, joinAt, pageRule}
 use Rattle.libraries.specs.PageLaws.{one, two, putsAt, joinsUpTo, mayWrite, noneWrites, PutIsRead, JoinKeepsTheRest}
@@ -107,15 +108,6 @@ put-back cs new p long low ea eb e =
     let whole = split-two cs p (pos 45) (pos 10) long low ea eb in
     let regroup : (take p cs ++ (pos 45 ∷ (pos 10 ∷ drop (p + 2) cs))) ++ (pos 0 ∷ (pos 0 ∷ [])) ≡ take p cs ++ (pos 45 ∷ (pos 10 ∷ (drop (p + 2) cs ++ (pos 0 ∷ (pos 0 ∷ []))))) = append-assoc (take p cs) (pos 45 ∷ (pos 10 ∷ drop (p + 2) cs)) (pos 0 ∷ (pos 0 ∷ [])) in
     cc
-
--- a raise is not a return
-no-return : {S : Type 0} (code : ℕ) (s t : S) → raise code s ≡ done t → ⊥
-no-return {S} code s t e =
-    let answers : Raise (pos code) ≡ Return (pos 0) = ap (λ (x : Step S). x .0) e in
-    let z : _≡_ {A = ℕ} 0 1 = cc in omega arith
-
-same-is : (a b : ℤ) → same a b ≡ true → a ≡ b
-same-is a b e = grind (arith, ints)
 
 pub join-keeps-the-rest : JoinKeepsTheRest
 join-keeps-the-rest cs new p long =

@@ -3,3 +3,4 @@ pub mod Page
 pub mod PageLaws
 pub mod Index
 pub mod Places
+pub mod IndexLaws
