@@ -1,0 +1,4 @@
+pub mod allowance;
+pub mod chart;
+pub mod pair;
+pub mod refusal;
