@@ -28,7 +28,11 @@ pub struct Entry {
 fn value_at(values: &[Value], place: usize) -> Value
     ensures { λ r. ⌜ r ≡ valueAt (now (values .entry)) place ⌝ }
 {
-    if place < values.len() { values[place] } else { Value::Number(0) }
+    if place < values.len() {
+        values[place]
+    } else {
+        Value::Number(0)
+    }
 }
 
 fn first_seven(values: &[Value]) -> [Value; 7]

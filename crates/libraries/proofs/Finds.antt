@@ -35,18 +35,20 @@ not-same j k ne = grind (arith, ints)
 lookup-entered : (bs : List Binding) (k v : ℤ) → lookup (entered bs k v) k ≡ Some v
 lookup-entered [] k v = rw (same-self k)
 lookup-entered (b ∷ bs) k v =
-    elim (order (b .key) k)
-    [ below l n ↦ rw (l, n) (lookup-entered bs k v)
-    | equal l s e ↦ rw (l, s, same-self k)
-    | above l n g ↦ rw (l, n, same-self k) ]
+    elim (order (b .key) k) [
+      | below l n ↦ rw (l, n) (lookup-entered bs k v)
+      | equal l s e ↦ rw (l, s, same-self k)
+      | above l n g ↦ rw (l, n, same-self k)
+    ]
 
 lookup-entered-other : (bs : List Binding) (k v j : ℤ) → (j ≡ k → ⊥) → lookup (entered bs k v) j ≡ lookup bs j
 lookup-entered-other [] k v j ne = rw (not-same j k ne)
 lookup-entered-other (b ∷ bs) k v j ne =
-    elim (order (b .key) k)
-    [ below l n ↦ rw l (ap (cond (same (b .key) j) (Some (b .value))) (lookup-entered-other bs k v j ne))
-    | equal l s e ↦ let other : same (b .key) j ≡ false = ap (λ (a : ℤ). same a j) e ∙ not-same j k ne in rw (l, s, not-same j k ne, other)
-    | above l n g ↦ rw (l, n, not-same j k ne) ]
+    elim (order (b .key) k) [
+      | below l n ↦ rw l (ap (cond (same (b .key) j) (Some (b .value))) (lookup-entered-other bs k v j ne))
+      | equal l s e ↦ let other : same (b .key) j ≡ false = ap (λ (a : ℤ). same a j) e ∙ not-same j k ne in rw (l, s, not-same j k ne, other)
+      | above l n g ↦ rw (l, n, not-same j k ne)
+    ]
 
 lookup-struck : (bs : List Binding) (k : ℤ) → ordered bs ≡ true → lookup (struck bs k) k ≡ None
 lookup-struck [] k o = refl
@@ -73,17 +75,19 @@ found-alike bs cs o (Some v) e = rw e
 pub find-after-enter : FindAfterEnter
 find-after-enter bs new k v =
     cond-both (hasKey bs k || ltb (length bs) 32) _ _ (λ s. s ≡ done new → (findAnswer new k ≡ Return v) × OthersAsBefore bs new k)
-    (λ _ e. let is : new ≡ entered bs k v = sym (ap (λ (x : Step (List Binding)). x .1) e) in
-        (found-alike new new (lookup new k) (Some v) (ap (λ (t : List Binding). lookup t k) is ∙ lookup-entered bs k v)
-        , (λ j ne. found-alike new bs (lookup new j) (lookup bs j) (ap (λ (t : List Binding). lookup t j) is ∙ lookup-entered-other bs k v j ne))))
+    (λ _ e. let is : new ≡ entered bs k v = sym (ap (λ (x : Step (List Binding)). x .1) e) in (
+      found-alike new new (lookup new k) (Some v) (ap (λ (t : List Binding). lookup t k) is ∙ lookup-entered bs k v),
+      (λ j ne. found-alike new bs (lookup new j) (lookup bs j) (ap (λ (t : List Binding). lookup t j) is ∙ lookup-entered-other bs k v j ne)),
+    ))
     (λ _ e. absurd (no-return 2 bs new e))
 
 pub find-after-strike : FindAfterStrike
 find-after-strike bs new k o =
     cond-both (hasKey bs k) _ _ (λ s. s ≡ done new → (findAnswer new k ≡ Raise (pos 1)) × OthersAsBefore bs new k)
-    (λ _ e. let is : new ≡ struck bs k = sym (ap (λ (x : Step (List Binding)). x .1) e) in
-        (found-alike new new (lookup new k) None (ap (λ (t : List Binding). lookup t k) is ∙ lookup-struck bs k o)
-        , (λ j ne. found-alike new bs (lookup new j) (lookup bs j) (ap (λ (t : List Binding). lookup t j) is ∙ lookup-struck-other bs k j ne))))
+    (λ _ e. let is : new ≡ struck bs k = sym (ap (λ (x : Step (List Binding)). x .1) e) in (
+      found-alike new new (lookup new k) None (ap (λ (t : List Binding). lookup t k) is ∙ lookup-struck bs k o),
+      (λ j ne. found-alike new bs (lookup new j) (lookup bs j) (ap (λ (t : List Binding). lookup t j) is ∙ lookup-struck-other bs k j ne)),
+    ))
     (λ _ e. absurd (no-return 1 bs new e))
 
 length-entered : (bs : List Binding) (k v : ℤ) → length (entered bs k v) ≤ suc (length bs)
@@ -95,10 +99,11 @@ length-replaced : (bs : List Binding) (k v : ℤ) → ordered bs ≡ true → ha
 length-replaced [] k v o h = absurd (both-ways false refl h)
 length-replaced (b ∷ bs) k v o h =
     let both = and-parts (belowAll (b .key) bs) (ordered bs) o in
-    elim (order (b .key) k)
-    [ below l n ↦ rw l (omega (arith, length-replaced bs k v (both .1) (rw n at h)))
-    | equal l s e ↦ rw (l, s) (omega arith)
-    | above l n g ↦ absurd (both-ways (hasKey bs k) (none-below bs k (below-more bs k (b .key) g (both .0)) .0) (rw n at h)) ]
+    elim (order (b .key) k) [
+      | below l n ↦ rw l (omega (arith, length-replaced bs k v (both .1) (rw n at h)))
+      | equal l s e ↦ rw (l, s) (omega arith)
+      | above l n g ↦ absurd (both-ways (hasKey bs k) (none-below bs k (below-more bs k (b .key) g (both .0)) .0) (rw n at h))
+    ]
 
 length-struck : (bs : List Binding) (k : ℤ) → length (struck bs k) ≤ length bs
 length-struck [] k = omega arith
@@ -143,7 +148,7 @@ module _ (bs : List Binding) (now : Canonical bs) where
   call-canonical m vs =
       cond-both (eqb m 0) _ _ CanonicalAfter (λ _. one-canonical (findKey bs) vs (λ k. find-canonical (lookup bs k)))
       (λ _. cond-both (eqb m 1) _ _ CanonicalAfter (λ _. two-canonical (enterKey bs) vs enter-canonical)
-          (λ _. cond-both (eqb m 2) _ _ CanonicalAfter (λ _. one-canonical (strikeKey bs) vs strike-canonical) (λ _. now)))
+      (λ _. cond-both (eqb m 2) _ _ CanonicalAfter (λ _. one-canonical (strikeKey bs) vs strike-canonical) (λ _. now)))
 
 calls-canonical : (bs : List Binding) (calls : List Call) → Canonical bs → Canonical (libraryAfter indexRule bs calls)
 calls-canonical bs [] now = now
@@ -169,7 +174,7 @@ same-rest : (b : Binding) (bs cs : List Binding) → belowAll (b .key) bs ≡ tr
 same-rest b bs cs lb lc h k =
     ⊎-elim
     (λ s. let e = same-is (b .key) k s in
-        subst (λ (a : ℤ). lookup bs a ≡ lookup cs a) e (none-below bs (b .key) lb .1 ∙ sym (none-below cs (b .key) lc .1)))
+    subst (λ (a : ℤ). lookup bs a ≡ lookup cs a) e (none-below bs (b .key) lb .1 ∙ sym (none-below cs (b .key) lc .1)))
     (λ n. rw n at (h k))
     (cases-bool (same (b .key) k))
 
@@ -183,13 +188,14 @@ same-values-same-state (b ∷ bs) [] ob oc h = absurd (some-none (b .value) (sym
 same-values-same-state (b ∷ bs) (c ∷ cs) ob oc h =
     let bb = and-parts (belowAll (b .key) bs) (ordered bs) ob in
     let cc′ = and-parts (belowAll (c .key) cs) (ordered cs) oc in
-    elim (order (b .key) (c .key))
-    [ below l n ↦ absurd (some-none (b .value) (sym (first-value b bs) ∙ h (b .key) ∙ below-first c cs (b .key) oc l))
-    | equal l s e ↦
-        let v : Some (b .value) ≡ Some (c .value) = sym (first-value b bs) ∙ h (b .key) ∙ ap (lookup (c ∷ cs)) e ∙ first-value c cs in
-        let value : b .value ≡ c .value = cc in
-        let first : b ≡ c = same-first b c e value in
-        let low : belowAll (b .key) cs ≡ true = subst (λ (a : ℤ). belowAll a cs ≡ true) (sym e) (cc′ .0) in
-        let rest = same-rest b bs cs (bb .0) low (λ k. h k ∙ ap (λ (x : Binding). lookup (x ∷ cs) k) (sym first)) in
-        ap (λ (x : Binding). x ∷ bs) first ∙ ap (λ (t : List Binding). c ∷ t) (same-values-same-state bs cs (bb .1) (cc′ .1) rest)
-    | above l n g ↦ absurd (some-none (c .value) (sym (first-value c cs) ∙ sym (h (c .key)) ∙ below-first b bs (c .key) ob g)) ]
+    elim (order (b .key) (c .key)) [
+      | below l n ↦ absurd (some-none (b .value) (sym (first-value b bs) ∙ h (b .key) ∙ below-first c cs (b .key) oc l))
+      | equal l s e ↦
+          let v : Some (b .value) ≡ Some (c .value) = sym (first-value b bs) ∙ h (b .key) ∙ ap (lookup (c ∷ cs)) e ∙ first-value c cs in
+          let value : b .value ≡ c .value = cc in
+          let first : b ≡ c = same-first b c e value in
+          let low : belowAll (b .key) cs ≡ true = subst (λ (a : ℤ). belowAll a cs ≡ true) (sym e) (cc′ .0) in
+          let rest = same-rest b bs cs (bb .0) low (λ k. h k ∙ ap (λ (x : Binding). lookup (x ∷ cs) k) (sym first)) in
+          ap (λ (x : Binding). x ∷ bs) first ∙ ap (λ (t : List Binding). c ∷ t) (same-values-same-state bs cs (bb .1) (cc′ .1) rest)
+      | above l n g ↦ absurd (some-none (c .value) (sym (first-value c cs) ∙ sym (h (c .key)) ∙ below-first b bs (c .key) ob g))
+    ]

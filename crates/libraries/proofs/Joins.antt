@@ -20,4 +20,4 @@ two-taken cs part p below long left moved =
     let at255 : getD (set (set (putMid p (256 - p) cs part) 254 (pos 0)) 255 (pos 0)) 255 (pos 0) ≡ pos 0 = getD-set-same (set (putMid p (256 - p) cs part) 254 (pos 0)) 255 (pos 0) (pos 0) (omega arith) in
     ext-getD (pos 0) _ _ (search (needs, places))
     (λ k h. let inside : k < 256 = omega (arith, simp length-set at h) in
-        grind (arith, places, getD-set-other, cases-eq k 254, cases-eq k 255, moved (k - p)))
+    grind (arith, places, getD-set-other, cases-eq k 254, cases-eq k 255, moved (k - p)))

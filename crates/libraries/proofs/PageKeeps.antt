@@ -53,8 +53,8 @@ module _ (cs : List ℤ) (p : ℕ) (long : length cs ≡ 256) where
       let over : p < q = grind (arith, ints) in
       cond-both (ltb q 255) _ _ (Keeps cs p)
       (λ e. let low : q < 255 = ltb-true q 255 e in
-          cond-both (hyphenated cs q) _ _ (Keeps cs p)
-          (λ _. (search (needs, places), grind (arith, places))) (λ _. still))
+      cond-both (hyphenated cs q) _ _ (Keeps cs p)
+      (λ _. (search (needs, places), grind (arith, places))) (λ _. still))
       (λ _. still)
 
   puts-keep : (vs : List Value) → putsAt p vs ≡ false → Keeps cs p (withTwo cs (putAt cs) vs)
@@ -77,7 +77,7 @@ module _ (cs : List ℤ) (p : ℕ) (long : length cs ≡ 256) where
   call-keeps m vs h =
       cond-both (eqb m 0) _ _ (Keeps cs p) (λ _. reads-keep vs)
       (λ _. cond-both (eqb m 1) _ _ (Keeps cs p) (λ e. puts-keep vs (rw e at h))
-          (λ e. cond-both (eqb m 2) _ _ (Keeps cs p) (λ f. joins-keep vs (rw (e, f) at h)) (λ _. still)))
+      (λ e. cond-both (eqb m 2) _ _ (Keeps cs p) (λ f. joins-keep vs (rw (e, f) at h)) (λ _. still)))
 
 calls-keep : (cs : List ℤ) (p : ℕ) (calls : List Call) → length cs ≡ 256 → noneWrites p calls ≡ true → codeAt (libraryAfter pageRule cs calls) p ≡ codeAt cs p
 calls-keep cs p [] long h = refl
@@ -113,7 +113,7 @@ pub join-keeps-the-rest : JoinKeepsTheRest
 join-keeps-the-rest cs new p long =
     cond-both (ltb p 255) _ _ (λ s. s ≡ done new → take p new ++ (pos 45 ∷ (pos 10 ∷ drop p new)) ≡ cs ++ (pos 0 ∷ (pos 0 ∷ [])))
     (λ l. cond-both (hyphenated cs p) _ _ (λ s. s ≡ done new → take p new ++ (pos 45 ∷ (pos 10 ∷ drop p new)) ≡ cs ++ (pos 0 ∷ (pos 0 ∷ [])))
-        (λ h e. let both = and-parts (same (codeAt cs p) (pos 45)) (same (codeAt cs (p + 1)) (pos 10)) h in
-            put-back cs new p long (ltb-true p 255 l) (same-is _ _ (both .0)) (same-is _ _ (both .1)) (sym (ap (λ (x : Step (List ℤ)). x .1) e)))
-        (λ _ e. absurd (no-return 3 cs new e)))
+    (λ h e. let both = and-parts (same (codeAt cs p) (pos 45)) (same (codeAt cs (p + 1)) (pos 10)) h in
+    put-back cs new p long (ltb-true p 255 l) (same-is _ _ (both .0)) (same-is _ _ (both .1)) (sym (ap (λ (x : Step (List ℤ)). x .1) e)))
+    (λ _ e. absurd (no-return 3 cs new e)))
     (λ _ e. absurd (no-return 1 cs new e))

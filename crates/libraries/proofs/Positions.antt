@@ -92,9 +92,10 @@ pub is-ok : (bs : List Binding) (k k′ : ℤ) (p : ℕ) → k′ ≡ k → p �
 is-ok bs k k′ p ek ep h =
     let place : p ≡ placeOf bs k = ep ∙ ap (placeOf bs) ek in
     let held : holdsAt bs (placeOf bs k) k ≡ true = ap (λ i. holdsAt bs i k) (sym place) ∙ ap (holdsAt bs p) (sym ek) ∙ h in
-    let there : positionOf bs k ≡ Ok (placeOf bs k) = rw held in
-    (ap Ok place ∙ sym there
-    , ⊎-elim (λ lt. lt) (λ le. absurd (both-ways _ (holds-outside bs p k′ le) h)) (cases-lt p (length bs)))
+    let there : positionOf bs k ≡ Ok (placeOf bs k) = rw held in (
+      ap Ok place ∙ sym there,
+      ⊎-elim (λ lt. lt) (λ le. absurd (both-ways _ (holds-outside bs p k′ le) h)) (cases-lt p (length bs)),
+    )
 
 pub is-err : (bs : List Binding) (k k′ : ℤ) (p : ℕ) → k′ ≡ k → p ≡ placeOf bs k′ → holdsAt bs p k′ ≡ false → (Err p ≡ positionOf bs k) × (p ≤ length bs)
 is-err bs k k′ p ek ep h =

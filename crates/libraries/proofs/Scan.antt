@@ -43,12 +43,12 @@ rotated-out xs part n i lt le long moved =
     let whole : length (take n xs) ≡ n = length-take-le n xs le in
     same-lists _ _ (search (needs, places))
     (λ k d h. let small : k < n - 1 = search (needs, places) in
-        ⊎-elim
-        (λ low. let left : getD (take (n - 1) (putMid i (n - i) xs part)) k d ≡ getD xs k d = search (needs, places) in
-            let right : getD (removed (take n xs) i) k d ≡ getD (take n xs) k d = getD-removed-below (take n xs) i d k low (omega arith) in
-            left ∙ sym (right ∙ getD-take n xs k d (omega arith)))
-        (λ high. let left : getD (take (n - 1) (putMid i (n - i) xs part)) k d ≡ getD part (k - i) d = search (needs, places) in
-            let right : getD (removed (take n xs) i) k d ≡ getD (take n xs) (k + 1) d = getD-removed-above (take n xs) i d k high (omega arith) in
-            let on : i + (k - i + 1) ≡ k + 1 = omega arith in
-            left ∙ moved (k - i) d (omega arith) ∙ ap (λ j. getD xs j d) on ∙ sym (right ∙ getD-take n xs (k + 1) d (omega arith)))
-        (cases-lt k i))
+    ⊎-elim
+    (λ low. let left : getD (take (n - 1) (putMid i (n - i) xs part)) k d ≡ getD xs k d = search (needs, places) in
+    let right : getD (removed (take n xs) i) k d ≡ getD (take n xs) k d = getD-removed-below (take n xs) i d k low (omega arith) in
+    left ∙ sym (right ∙ getD-take n xs k d (omega arith)))
+    (λ high. let left : getD (take (n - 1) (putMid i (n - i) xs part)) k d ≡ getD part (k - i) d = search (needs, places) in
+    let right : getD (removed (take n xs) i) k d ≡ getD (take n xs) (k + 1) d = getD-removed-above (take n xs) i d k high (omega arith) in
+    let on : i + (k - i + 1) ≡ k + 1 = omega arith in
+    left ∙ moved (k - i) d (omega arith) ∙ ap (λ j. getD xs j d) on ∙ sym (right ∙ getD-take n xs (k + 1) d (omega arith)))
+    (cases-lt k i))

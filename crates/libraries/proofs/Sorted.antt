@@ -56,61 +56,68 @@ pub holds-has : (bs : List Binding) (k : ℤ) → ordered bs ≡ true → holdsA
 holds-has [] k o = refl
 holds-has (b ∷ bs) k o =
     let both = and-parts (belowAll (b .key) bs) (ordered bs) o in
-    elim (order (b .key) k)
-    [ below l n ↦ rw (l, n) (holds-has bs k (both .1))
-    | equal l s e ↦ rw (l, s)
-    | above l n g ↦ rw (l, n) (sym (none-below bs k (below-more bs k (b .key) g (both .0)) .0)) ]
+    elim (order (b .key) k) [
+      | below l n ↦ rw (l, n) (holds-has bs k (both .1))
+      | equal l s e ↦ rw (l, s)
+      | above l n g ↦ rw (l, n) (sym (none-below bs k (below-more bs k (b .key) g (both .0)) .0))
+    ]
 
 pub lookup-at : (bs : List Binding) (k : ℤ) (d : Binding) → ordered bs ≡ true → lookup bs k ≡ cond (holdsAt bs (placeOf bs k) k) (Some (getD bs (placeOf bs k) d .value)) None
 lookup-at [] k d o = refl
 lookup-at (b ∷ bs) k d o =
     let both = and-parts (belowAll (b .key) bs) (ordered bs) o in
-    elim (order (b .key) k)
-    [ below l n ↦ rw (l, n) (lookup-at bs k d (both .1))
-    | equal l s e ↦ rw (l, s)
-    | above l n g ↦ rw (l, n) (none-below bs k (below-more bs k (b .key) g (both .0)) .1) ]
+    elim (order (b .key) k) [
+      | below l n ↦ rw (l, n) (lookup-at bs k d (both .1))
+      | equal l s e ↦ rw (l, s)
+      | above l n g ↦ rw (l, n) (none-below bs k (below-more bs k (b .key) g (both .0)) .1)
+    ]
 
 pub entered-set : (bs : List Binding) (k v : ℤ) → holdsAt bs (placeOf bs k) k ≡ true → set bs (placeOf bs k) (bound k v) ≡ entered bs k v
 entered-set [] k v h = absurd (let z : _≡_ {A = ℕ} 0 1 = cc in omega arith)
 entered-set (b ∷ bs) k v h =
-    elim (order (b .key) k)
-    [ below l n ↦ rw l (ap (λ t. b ∷ t) (entered-set bs k v (rw l at h)))
-    | equal l s e ↦ rw (l, s)
-    | above l n g ↦ absurd (let t : same (b .key) k ≡ true = rw l at h in let z : _≡_ {A = ℕ} 0 1 = cc in omega arith) ]
+    elim (order (b .key) k) [
+      | below l n ↦ rw l (ap (λ t. b ∷ t) (entered-set bs k v (rw l at h)))
+      | equal l s e ↦ rw (l, s)
+      | above l n g ↦ absurd (let t : same (b .key) k ≡ true = rw l at h in let z : _≡_ {A = ℕ} 0 1 = cc in omega arith)
+    ]
 
 pub entered-inserted : (bs : List Binding) (k v : ℤ) → holdsAt bs (placeOf bs k) k ≡ false → inserted bs (placeOf bs k) (bound k v) ≡ entered bs k v
 entered-inserted [] k v h = refl
 entered-inserted (b ∷ bs) k v h =
-    elim (order (b .key) k)
-    [ below l n ↦ rw l (ap (λ t. b ∷ t) (entered-inserted bs k v (rw l at h)))
-    | equal l s e ↦ absurd (let t : same (b .key) k ≡ false = rw l at h in let z : _≡_ {A = ℕ} 0 1 = cc in omega arith)
-    | above l n g ↦ rw (l, n) ]
+    elim (order (b .key) k) [
+      | below l n ↦ rw l (ap (λ t. b ∷ t) (entered-inserted bs k v (rw l at h)))
+      | equal l s e ↦ absurd (let t : same (b .key) k ≡ false = rw l at h in let z : _≡_ {A = ℕ} 0 1 = cc in omega arith)
+      | above l n g ↦ rw (l, n)
+    ]
 
 pub struck-removed : (bs : List Binding) (k : ℤ) → holdsAt bs (placeOf bs k) k ≡ true → removed bs (placeOf bs k) ≡ struck bs k
 struck-removed [] k h = absurd (let z : _≡_ {A = ℕ} 0 1 = cc in omega arith)
 struck-removed (b ∷ bs) k h =
-    elim (order (b .key) k)
-    [ below l n ↦ rw (l, n) (ap (λ t. b ∷ t) (struck-removed bs k (rw l at h)))
-    | equal l s e ↦ rw (l, s)
-    | above l n g ↦ absurd (let t : same (b .key) k ≡ true = rw l at h in let z : _≡_ {A = ℕ} 0 1 = cc in omega arith) ]
+    elim (order (b .key) k) [
+      | below l n ↦ rw (l, n) (ap (λ t. b ∷ t) (struck-removed bs k (rw l at h)))
+      | equal l s e ↦ rw (l, s)
+      | above l n g ↦ absurd (let t : same (b .key) k ≡ true = rw l at h in let z : _≡_ {A = ℕ} 0 1 = cc in omega arith)
+    ]
 
 pub below-entered : (bs : List Binding) (j k v : ℤ) → ltZ j k ≡ true → belowAll j bs ≡ true → belowAll j (entered bs k v) ≡ true
 below-entered [] j k v l h = and-from _ _ l refl
 below-entered (b ∷ bs) j k v l h =
     let both = and-parts (ltZ j (b .key)) (belowAll j bs) h in
-    elim (order (b .key) k)
-    [ below m n ↦ rw m (and-from _ _ (both .0) (below-entered bs j k v l (both .1)))
-    | equal m s e ↦ rw (m, s) (and-from _ _ l (both .1))
-    | above m n g ↦ rw (m, n) (and-from _ _ l h) ]
+    elim (order (b .key) k) [
+      | below m n ↦ rw m (and-from _ _ (both .0) (below-entered bs j k v l (both .1)))
+      | equal m s e ↦ rw (m, s) (and-from _ _ l (both .1))
+      | above m n g ↦ rw (m, n) (and-from _ _ l h)
+    ]
 
 pub ordered-entered : (bs : List Binding) (k v : ℤ) → ordered bs ≡ true → ordered (entered bs k v) ≡ true
 ordered-entered [] k v o = refl
 ordered-entered (b ∷ bs) k v o =
     let both = and-parts (belowAll (b .key) bs) (ordered bs) o in
-    elim (order (b .key) k)
-    [ below l n ↦ rw l (and-from _ _ (below-entered bs (b .key) k v l (both .0)) (ordered-entered bs k v (both .1)))
-    | equal l s e ↦ rw (l, s) (and-from _ _ (subst (λ (j : ℤ). belowAll j bs ≡ true) e (both .0)) (both .1))
-    | above l n g ↦ rw (l, n) (and-from _ _ (and-from _ _ g (below-more bs k (b .key) g (both .0))) o) ]
+    elim (order (b .key) k) [
+      | below l n ↦ rw l (and-from _ _ (below-entered bs (b .key) k v l (both .0)) (ordered-entered bs k v (both .1)))
+      | equal l s e ↦ rw (l, s) (and-from _ _ (subst (λ (j : ℤ). belowAll j bs ≡ true) e (both .0)) (both .1))
+      | above l n g ↦ rw (l, n) (and-from _ _ (and-from _ _ g (below-more bs k (b .key) g (both .0))) o)
+    ]
 
 pub below-struck : (bs : List Binding) (j k : ℤ) → belowAll j bs ≡ true → belowAll j (struck bs k) ≡ true
 below-struck [] j k h = refl

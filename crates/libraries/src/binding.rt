@@ -10,13 +10,13 @@ pub struct Binding {
 }
 
 impl Binding {
-    pub fn is_below(self, key: i32) -> bool
+    pub(crate) fn is_below(self, key: i32) -> bool
         ensures { λ r. ⌜ r ≡ ltZ (self .key) key ⌝ }
     {
         self.key < key
     }
 
-    pub fn has(self, key: i32) -> bool
+    pub(crate) fn has(self, key: i32) -> bool
         ensures { λ r. ⌜ r ≡ same (self .key) key ⌝ }
     {
         self.key == key

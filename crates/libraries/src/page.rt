@@ -25,7 +25,7 @@ impl Page {
     pub fn code(&self, place: u8) -> i32
         ensures { λ r. ⌜ r ≡ codeAt (now (self .entry) .codes) place ⌝ }
     {
-        self.codes[place as usize]
+        self.codes[usize::from(place)]
     }
 
     fn read(&self, place: i32) -> LibraryAnswer

@@ -51,8 +51,8 @@ is-drawn : (arrows new : Arrows) (from : ℕ) (kind : QuestionKind) (m to : ℕ)
 is-drawn arrows new from kind m to =
     cond-both (ltb from 16 && ltb to 16) _ _ (λ s. s ≡ (Ok tt, new) → (from < 16) × (m < 32) × (new ≡ set arrows (slot from kind m) (Some to)))
     (λ b e. let known : drawnOn arrows from (Some kind) m to ≡ (Ok tt, new) = subst (λ (k : Option QuestionKind). drawnOn arrows from k m to ≡ (Ok tt, new)) (kind-again kind) e in
-        let rest = on-drawn arrows new from kind m to known in
-        (ltb-true from 16 (and-parts _ _ b .0), rest .0, rest .1))
+    let rest = on-drawn arrows new from kind m to known in
+    (ltb-true from 16 (and-parts _ _ b .0), rest .0, rest .1))
     (λ _ e. absurd (refused NoSuchBox arrows new e))
 
 slot-inside : (from : ℕ) (kind : QuestionKind) (m : ℕ) → from < 16 → m < 32 → slot from kind m < 1536
@@ -86,12 +86,13 @@ others-stay : (arrows : Arrows) (from : ℕ) (kind : QuestionKind) (m to : ℕ) 
 others-stay arrows from kind m to l from′ kind′ m′ apart =
     ⊎-elim
     (λ h. let t : ltb m′ 32 ≡ true = h in
-        rw t (getD-set-other arrows (slot from kind m) (slot from′ kind′ m′) (Some to) None (slots-apart from from′ kind kind′ m m′ l (ltb-true m′ 32 h) apart)))
+    rw t (getD-set-other arrows (slot from kind m) (slot from′ kind′ m′) (Some to) None (slots-apart from from′ kind kind′ m m′ l (ltb-true m′ 32 h) apart)))
     (λ h. let t : ltb m′ 32 ≡ false = h in rw t)
     (cases-bool (ltb m′ 32))
 
 pub one-arrow-drawn : OneArrowDrawn
 one-arrow-drawn arrows new from kind m to long e =
-    let d = is-drawn arrows new from kind m to e in
-    (ap (λ (ws : Arrows). arrowAt ws from kind m) (d .2) ∙ drawn-there arrows from kind m to long (d .0) (d .1)
-    , (λ from′ kind′ m′ apart. ap (λ (ws : Arrows). arrowAt ws from′ kind′ m′) (d .2) ∙ others-stay arrows from kind m to (d .1) from′ kind′ m′ apart))
+    let d = is-drawn arrows new from kind m to e in (
+      ap (λ (ws : Arrows). arrowAt ws from kind m) (d .2) ∙ drawn-there arrows from kind m to long (d .0) (d .1),
+      (λ from′ kind′ m′ apart. ap (λ (ws : Arrows). arrowAt ws from′ kind′ m′) (d .2) ∙ others-stay arrows from kind m to (d .1) from′ kind′ m′ apart),
+    )

@@ -36,19 +36,19 @@ own-before : (m : ℕ) (left : List ℕ) (questions : List Question) → length 
 own-before m left questions long law =
     cond-both (ltb m 32 && ltb 0 (getD left m 0)) _ _ (Owed m left 1 questions)
     (λ h. let parts = and-parts (ltb m 32) (ltb 0 (getD left m 0)) h in
-        let inside : m < 32 = ltb-true m 32 (parts .0) in
-        let more : 0 < getD left m 0 = ltb-true 0 (getD left m 0) (parts .1) in
-        let rest = law (set left m (getD left m 0 - 1)) (simp length-set long) in
-        let one-less : getD (set left m (getD left m 0 - 1)) m 0 ≡ getD left m 0 - 1 = getD-set-same left m (getD left m 0 - 1) 0 (omega arith) in
-        omega arith)
+    let inside : m < 32 = ltb-true m 32 (parts .0) in
+    let more : 0 < getD left m 0 = ltb-true 0 (getD left m 0) (parts .1) in
+    let rest = law (set left m (getD left m 0 - 1)) (simp length-set long) in
+    let one-less : getD (set left m (getD left m 0 - 1)) m 0 ≡ getD left m 0 - 1 = getD-set-same left m (getD left m 0 - 1) 0 (omega arith) in
+    omega arith)
     (λ h. let none = nothing-left left m long h in let rest = law left long in omega arith)
 
 other-before : (m n : ℕ) (left : List ℕ) (questions : List Question) → length left ≡ 32 → Law m questions → (m ≡ n → ⊥) → Owed m left 0 questions (counted left n)
 other-before m n left questions long law ne =
     cond-both (ltb n 32 && ltb 0 (getD left n 0)) _ _ (Owed m left 0 questions)
     (λ h. let rest = law (set left n (getD left n 0 - 1)) (simp length-set long) in
-        let kept : getD (set left n (getD left n 0 - 1)) m 0 ≡ getD left m 0 = getD-set-other left n m (getD left n 0 - 1) 0 ne in
-        omega arith)
+    let kept : getD (set left n (getD left n 0 - 1)) m 0 ≡ getD left m 0 = getD-set-other left n m (getD left n 0 - 1) 0 ne in
+    omega arith)
     (λ h. let rest = law left long in omega arith)
 
 -- one before, then the rest
@@ -56,12 +56,12 @@ before-then : (m n : ℕ) (left : List ℕ) (questions : List Question) → leng
 before-then m n left questions long law =
     ⊎-elim
     (λ own. let is : n ≡ m = eqb-true n m own in
-        let one : beforeOf m Before n ≡ 1 = rw own in
-        subst (λ (b : ℕ). Owed m left b questions (counted left n)) (sym one)
-        (subst (λ (k : ℕ). Owed m left 1 questions (counted left k)) (sym is) (own-before m left questions long law)))
+    let one : beforeOf m Before n ≡ 1 = rw own in
+    subst (λ (b : ℕ). Owed m left b questions (counted left n)) (sym one)
+    (subst (λ (k : ℕ). Owed m left 1 questions (counted left k)) (sym is) (own-before m left questions long law)))
     (λ other. let none : beforeOf m Before n ≡ 0 = rw other in
-        subst (λ (b : ℕ). Owed m left b questions (counted left n)) (sym none)
-        (other-before m n left questions long law (λ e. eqb-false n m other (sym e))))
+    subst (λ (b : ℕ). Owed m left b questions (counted left n)) (sym none)
+    (other-before m n left questions long law (λ e. eqb-false n m other (sym e))))
     (cases-bool (eqb n m))
 
 pub passes-as-often-as-given : PassesAsOftenAsGiven

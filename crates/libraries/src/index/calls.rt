@@ -68,7 +68,11 @@ impl Index {
         ensures within { λ r. ⌜ Within (now (self .entry) .count) r ⌝ }
     {
         let place = self.place(key);
-        if self.holds(place, key) { Ok(place) } else { Err(place) }
+        if self.holds(place, key) {
+            Ok(place)
+        } else {
+            Err(place)
+        }
     }
 
     // Looks for the value of a key without a call.
