@@ -80,7 +80,7 @@ impl Entry {
 }
 
 // Carries the law that up to seven values can be read back from an entry.
-pub fn entries_keep_up_to_seven() -> u8
+pub fn seven_values_stand() -> u8
     ensures { λ _. ⌜ KeepsUpToSeven ⌝ }
 {
     0

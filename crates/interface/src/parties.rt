@@ -39,14 +39,14 @@ pub trait Policy {
 }
 
 // Carries the law that equal libraries answer every list of calls alike and are equal afterwards.
-pub fn equal_libraries_stay_equal<L: Library>() -> u8
+pub fn equal_libraries_stand<L: Library>() -> u8
     ensures { λ _. ⌜ LibrariesStayEqual (L·Library .State) ⌝ }
 {
     0
 }
 
 // Carries the same law of policies and questions.
-pub fn equal_policies_stay_equal<P: Policy>() -> u8
+pub fn equal_policies_stand<P: Policy>() -> u8
     ensures { λ _. ⌜ PoliciesStayEqual (P·Policy .State) ⌝ }
 {
     0

@@ -38,25 +38,19 @@ module _ (bs : List Binding) (k : ℤ) (p : ℕ) where
       (cases-bool (holdsAt bs (placeOf bs k) k))
 
   module _ (o : ordered bs ≡ true) where
-    pub value-ok : (d : Binding) → Ok p ≡ positionOf bs k → Some (getD bs p d .value) ≡ lookup bs k
-    value-ok d e =
+    pub finds-ok : (d : Binding) → Ok p ≡ positionOf bs k → (hasKey bs k ≡ true) × (lookup bs k ≡ Some (getD bs p d .value))
+    finds-ok d e =
         let f = at-ok e in
         let l = lookup-at bs k d o in
         let t : lookup bs k ≡ Some (getD bs (placeOf bs k) d .value) = rw (f .1) at l in
-        ap (λ i. Some (getD bs i d .value)) (f .0) ∙ sym t
+        (sym (holds-has bs k o) ∙ f .1, t ∙ ap (λ i. Some (getD bs i d .value)) (sym (f .0)))
 
-    pub value-err : Err p ≡ positionOf bs k → None ≡ lookup bs k
-    value-err e =
+    pub finds-err : Err p ≡ positionOf bs k → (hasKey bs k ≡ false) × (lookup bs k ≡ None)
+    finds-err e =
         let f = at-err e in
         let l = lookup-at bs k (bound (pos 0) (pos 0)) o in
         let t : lookup bs k ≡ None = rw (f .1) at l in
-        sym t
-
-    has-ok : Ok p ≡ positionOf bs k → hasKey bs k ≡ true
-    has-ok e = sym (holds-has bs k o) ∙ at-ok e .1
-
-    has-err : Err p ≡ positionOf bs k → hasKey bs k ≡ false
-    has-err e = sym (holds-has bs k o) ∙ at-err e .1
+        (sym (holds-has bs k o) ∙ f .1, t)
 
     pub set-entered : (v : ℤ) → Ok p ≡ positionOf bs k → set bs p (bound k v) ≡ entered bs k v
     set-entered v e = ap (λ i. set bs i (bound k v)) (at-ok e .0) ∙ entered-set bs k v (at-ok e .1)
@@ -66,21 +60,6 @@ module _ (bs : List Binding) (k : ℤ) (p : ℕ) where
 
     pub removed-struck : Ok p ≡ positionOf bs k → removed bs p ≡ struck bs k
     removed-struck e = ap (removed bs) (at-ok e .0) ∙ struck-removed bs k (at-ok e .1)
-
-    pub enter-old : (v : ℤ) → Ok p ≡ positionOf bs k → done (entered bs k v) ≡ enterKey bs k v
-    enter-old v e = let t : (hasKey bs k || ltb (length bs) 32) ≡ true = or-left _ _ (has-ok e) in rw t
-
-    pub enter-new : (v : ℤ) → length bs < 32 → Err p ≡ positionOf bs k → done (entered bs k v) ≡ enterKey bs k v
-    enter-new v l e = let t : (hasKey bs k || ltb (length bs) 32) ≡ true = or-right _ _ (lt-ltb (length bs) 32 l) in rw t
-
-    pub enter-full : (v : ℤ) → 32 ≤ length bs → Err p ≡ positionOf bs k → raise 2 bs ≡ enterKey bs k v
-    enter-full v l e = let t : (hasKey bs k || ltb (length bs) 32) ≡ false = or-from _ _ (has-err e) (le-ltb (length bs) 32 l) in rw t
-
-    pub strike-old : Ok p ≡ positionOf bs k → done (struck bs k) ≡ strikeKey bs k
-    strike-old e = rw (has-ok e)
-
-    pub strike-absent : Err p ≡ positionOf bs k → raise 1 bs ≡ strikeKey bs k
-    strike-absent e = rw (has-err e)
 
 -- the array after an old key got its new value
 pub stored-old : (xs : List Binding) (n p : ℕ) (k k′ v v′ : ℤ) → k′ ≡ k → v′ ≡ v → ordered (take n xs) ≡ true → p < n → Ok p ≡ positionOf (take n xs) k → take n (set xs p (bound k′ v′)) ≡ entered (take n xs) k v

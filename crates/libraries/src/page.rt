@@ -94,14 +94,14 @@ pub impl Library for Page as PageLibrary {
 }
 
 // Carries the law that what was put at a place is read there until something may write there.
-pub fn put_is_read() -> u8
+pub fn put_stands() -> u8
     ensures { λ _. ⌜ PutIsRead ⌝ }
 {
     0
 }
 
 // Carries the law that a join takes out its two codes and keeps every other one, in order.
-pub fn join_keeps_the_rest() -> u8
+pub fn join_stands() -> u8
     ensures { λ _. ⌜ JoinKeepsTheRest ⌝ }
 {
     0

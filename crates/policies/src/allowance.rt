@@ -51,7 +51,7 @@ pub impl Policy for Allowance as AllowancePolicy {
 }
 
 // Carries the law that an allowance passes a method's befores exactly as often as the method was given.
-pub fn passes_as_often_as_given() -> u8
+pub fn allowance_stands() -> u8
     ensures { λ _. ⌜ PassesAsOftenAsGiven ⌝ }
 {
     0

@@ -3,10 +3,11 @@ ghost use mathlib.Core.List.{List, []};
 ghost use Prim.Native.Nat.{_+_, _-_, _<_, _≤_};
 ghost use lib.ListN.{length, take};
 ghost use Rattle.std.specs.Holes.{inserted, removed};
+ghost use Rattle.std.specs.declared.result.Result.the-variants.{Ok, Err};
 ghost use Rattle.libraries.specs.declared.binding.Binding.{Binding};
-ghost use Rattle.libraries.specs.Index.{lookup, indexRule, findKey, enterKey, strikeKey};
+ghost use Rattle.libraries.specs.Index.{lookup, entered, struck, indexRule, findKey, enterKey, strikeKey};
 ghost use Rattle.libraries.specs.IndexLaws.{FindAfterEnter, FindAfterStrike, StaysCanonical, SameValuesSameState};
-ghost use Rattle.libraries.specs.Places.{bindings, placeOf, holdsAt, positionOf, Within};
+ghost use Rattle.libraries.specs.Places.{bindings, placeOf, holdsAt, positionOf, Within, Finds};
 use crate::binding::Binding;
 use crate::index::Index;
 use interface::answers::LibraryAnswer;
@@ -66,6 +67,7 @@ impl Index {
     fn position(&self, key: i32) -> Result<usize, usize>
         ensures at { λ r. ⌜ r ≡ positionOf (bindings (now (self .entry))) key ⌝ }
         ensures within { λ r. ⌜ Within (now (self .entry) .count) r ⌝ }
+        ensures finds { λ r. ⌜ Finds (now (self .entry)) key r ⌝ }
     {
         let place = self.place(key);
         if self.holds(place, key) {
@@ -94,17 +96,46 @@ impl Index {
         }
     }
 
+    // Gives the key at its place another value.
+    fn replace(&mut self, place: usize, key: i32, value: i32)
+        requires at { ⌜ Ok place ≡ positionOf (bindings (now self)) key ⌝ }
+        requires within { ⌜ place < now self .count ⌝ }
+        ensures { λ _. ⌜ bindings (now (self .exit)) ≡ entered (bindings (now (self .entry))) key value ⌝ }
+    {
+        self.places[place] = Binding { key, value };
+    }
+
+    // Puts a new key at its place.
+    fn add(&mut self, place: usize, key: i32, value: i32)
+        requires at { ⌜ Err place ≡ positionOf (bindings (now self)) key ⌝ }
+        requires within { ⌜ place ≤ now self .count ⌝ }
+        requires room { ⌜ now self .count < 32 ⌝ }
+        ensures { λ _. ⌜ bindings (now (self .exit)) ≡ entered (bindings (now (self .entry))) key value ⌝ }
+    {
+        insert(&mut self.places, self.count, place, Binding { key, value });
+        self.count += 1;
+    }
+
+    // Takes the key at its place out.
+    fn take_out(&mut self, place: usize, key: i32)
+        requires at { ⌜ Ok place ≡ positionOf (bindings (now self)) key ⌝ }
+        requires within { ⌜ place < now self .count ⌝ }
+        ensures { λ _. ⌜ bindings (now (self .exit)) ≡ struck (bindings (now (self .entry))) key ⌝ }
+    {
+        remove(&mut self.places, self.count, place);
+        self.count -= 1;
+    }
+
     fn enter(&mut self, key: i32, value: i32) -> LibraryAnswer
         ensures { λ r. ⌜ (r, bindings (now (self .exit))) ≡ enterKey (bindings (now (self .entry))) key value ⌝ }
     {
         match self.position(key) {
-            Ok(place) => self.places[place] = Binding { key, value },
+            Ok(place) => self.replace(place, key, value),
             Err(place) => {
                 if self.count >= 32 {
                     return LibraryAnswer::Raise(2);
                 }
-                insert(&mut self.places, self.count, place, Binding { key, value });
-                self.count += 1;
+                self.add(place, key, value);
             }
         }
         LibraryAnswer::Return(0)
@@ -115,8 +146,7 @@ impl Index {
     {
         match self.position(key) {
             Ok(place) => {
-                remove(&mut self.places, self.count, place);
-                self.count -= 1;
+                self.take_out(place, key);
                 LibraryAnswer::Return(0)
             }
             Err(_) => LibraryAnswer::Raise(1),
@@ -143,28 +173,28 @@ pub impl Library for Index as IndexLibrary {
 }
 
 // Carries the law that an entered key is found with its value, and every other key as before.
-pub fn find_after_enter() -> u8
+pub fn enter_stands() -> u8
     ensures { λ _. ⌜ FindAfterEnter ⌝ }
 {
     0
 }
 
 // Carries the law that a struck key is absent, and every other key is found as before.
-pub fn find_after_strike() -> u8
+pub fn strike_stands() -> u8
     ensures { λ _. ⌜ FindAfterStrike ⌝ }
 {
     0
 }
 
 // Carries the law that there are never more than 32 keys, and that they stay in order.
-pub fn stays_canonical() -> u8
+pub fn canonical_states_stand() -> u8
     ensures { λ _. ⌜ StaysCanonical ⌝ }
 {
     0
 }
 
 // Carries the law that two indices with the same keys and values are equal.
-pub fn same_values_same_state() -> u8
+pub fn equal_states_stand() -> u8
     ensures { λ _. ⌜ SameValuesSameState ⌝ }
 {
     0

@@ -80,7 +80,7 @@ pub impl Policy for Chart as ChartPolicy {
 }
 
 // Carries the law that drawing draws one arrow and leaves every other as it was.
-pub fn one_arrow_drawn() -> u8
+pub fn drawing_stands() -> u8
     ensures { λ _. ⌜ OneArrowDrawn ⌝ }
 {
     0

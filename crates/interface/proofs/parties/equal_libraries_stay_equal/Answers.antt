@@ -1,5 +1,0 @@
-use Rattle.interface.proofs.Equals.{libraries-stay-equal}
-use Rattle.interface.proofs.parties.equal_libraries_stay_equal.Needs as need
-
-pub returns : need.returns
-returns g c = libraries-stay-equal

@@ -1,5 +1,0 @@
-use Rattle.interface.proofs.Equals.{policies-stay-equal}
-use Rattle.interface.proofs.parties.equal_policies_stay_equal.Needs as need
-
-pub returns : need.returns
-returns g c = policies-stay-equal

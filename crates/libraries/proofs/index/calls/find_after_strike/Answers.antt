@@ -1,5 +1,0 @@
-use Rattle.libraries.proofs.Finds.{find-after-strike}
-use Rattle.libraries.proofs.index.calls.find_after_strike.Needs as need
-
-pub returns : need.returns
-returns c = find-after-strike

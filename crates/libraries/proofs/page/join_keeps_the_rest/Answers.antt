@@ -1,5 +1,0 @@
-use Rattle.libraries.proofs.PageKeeps.{join-keeps-the-rest}
-use Rattle.libraries.proofs.page.join_keeps_the_rest.Needs as need
-
-pub returns : need.returns
-returns c = join-keeps-the-rest

@@ -1,5 +1,0 @@
-use Rattle.policies.proofs.Arrows.{one-arrow-drawn}
-use Rattle.policies.proofs.chart.moves.one_arrow_drawn.Needs as need
-
-pub returns : need.returns
-returns c = one-arrow-drawn
