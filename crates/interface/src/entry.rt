@@ -2,7 +2,7 @@ ghost use mathlib.Core.Path.{_≡_};
 ghost use lib.ListN.{getD};
 ghost use lib.IntN.{pos};
 ghost use Rattle.interface.specs.declared.value.Value.the-variants.{Number};
-ghost use Rattle.interface.specs.Entries.{valueAt, firstSeven, libraryEntry, questionEntry, KeepsUpToSeven};
+ghost use Rattle.interface.specs.Entries.{valueAt, firstSeven, libraryEntry, questionEntry};
 use crate::answers::LibraryAnswer;
 use crate::answers::PolicyAnswer;
 use crate::answers::QuestionKind;
@@ -77,11 +77,4 @@ impl Entry {
             number: answer.number(),
         }
     }
-}
-
-// Carries the law that up to seven values can be read back from an entry.
-pub fn seven_values_stand() -> u8
-    ensures { λ _. ⌜ KeepsUpToSeven ⌝ }
-{
-    0
 }

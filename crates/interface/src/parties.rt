@@ -2,7 +2,6 @@ ghost use mathlib.Core.Path.{_≡_};
 ghost use mathlib.Core.List.{List};
 ghost use Prim.Native.Nat.{ℕ};
 ghost use Rattle.interface.specs.Rules.{LibraryRule, PolicyRule};
-ghost use Rattle.interface.specs.Equality.{LibrariesStayEqual, PoliciesStayEqual};
 use crate::answers::LibraryAnswer;
 use crate::answers::PolicyAnswer;
 use crate::answers::QuestionKind;
@@ -36,18 +35,4 @@ pub trait Policy {
     fn ask(&mut self, kind: QuestionKind, method: u8, values: &[Value]) -> PolicyAnswer
         ensures step { λ r. ⌜ (r, state (now (self .exit))) ≡ rule (now (self .entry)) (state (now (self .entry))) kind method (now (values .entry)) ⌝ }
         ensures keeps { λ _. ⌜ rule (now (self .exit)) ≡ rule (now (self .entry)) ⌝ };
-}
-
-// Carries the law that equal libraries answer every list of calls alike and are equal afterwards.
-pub fn equal_libraries_stand<L: Library>() -> u8
-    ensures { λ _. ⌜ LibrariesStayEqual (L·Library .State) ⌝ }
-{
-    0
-}
-
-// Carries the same law of policies and questions.
-pub fn equal_policies_stand<P: Policy>() -> u8
-    ensures { λ _. ⌜ PoliciesStayEqual (P·Policy .State) ⌝ }
-{
-    0
 }

@@ -66,6 +66,11 @@ pub stored-old : (xs : List Binding) (n p : ℕ) (k k′ v v′ : ℤ) → k′ 
 stored-old xs n p k k′ v v′ ek ev o lt e =
     take-set-lt n xs p (bound k′ v′) lt ∙ ap (set (take n xs) p) (same-binding k k′ v v′ ek ev) ∙ set-entered (take n xs) k p o v e
 
+-- the array after a new key was put at its place
+pub stored-new : (xs ys : List Binding) (n p : ℕ) (k k′ v v′ : ℤ) → k′ ≡ k → v′ ≡ v → ordered (take n xs) ≡ true → Err p ≡ positionOf (take n xs) k → take (n + 1) ys ≡ inserted (take n xs) p (bound k′ v′) → take (n + 1) ys ≡ entered (take n xs) k v
+stored-new xs ys n p k k′ v v′ ek ev o e put =
+    put ∙ ap (inserted (take n xs) p) (same-binding k k′ v v′ ek ev) ∙ inserted-entered (take n xs) k p o v e
+
 -- the position from the place and whether the key stands there
 pub is-ok : (bs : List Binding) (k k′ : ℤ) (p : ℕ) → k′ ≡ k → p ≡ placeOf bs k′ → holdsAt bs p k′ ≡ true → (Ok p ≡ positionOf bs k) × (p < length bs)
 is-ok bs k k′ p ek ep h =

@@ -7,6 +7,8 @@ use crate::binding::Binding;
 
 mod calls;
 
+pub use calls::IndexLibrary;
+
 // A map from up to 32 keys to values. The first `count` places hold its bindings in the order of their keys, so that
 // the same keys and values always stand the same way; what the other places hold does not matter.
 #[derive(Drop)]

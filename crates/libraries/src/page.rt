@@ -3,7 +3,6 @@ ghost use mathlib.Core.List.{List};
 ghost use Prim.Native.Nat.{_<_};
 ghost use lib.IntN.{ℤ};
 ghost use Rattle.libraries.specs.Page.{blank, codeAt, readAt, putAt, joined, joinAt, pageRule};
-ghost use Rattle.libraries.specs.PageLaws.{PutIsRead, JoinKeepsTheRest};
 use interface::answers::LibraryAnswer;
 use interface::parties::Library;
 use interface::value::Value;
@@ -91,18 +90,4 @@ pub impl Library for Page as PageLibrary {
             _ => LibraryAnswer::Raise(7),
         }
     }
-}
-
-// Carries the law that what was put at a place is read there until something may write there.
-pub fn put_stands() -> u8
-    ensures { λ _. ⌜ PutIsRead ⌝ }
-{
-    0
-}
-
-// Carries the law that a join takes out its two codes and keeps every other one, in order.
-pub fn join_stands() -> u8
-    ensures { λ _. ⌜ JoinKeepsTheRest ⌝ }
-{
-    0
 }

@@ -2,7 +2,6 @@ ghost use mathlib.Core.Path.{_≡_};
 ghost use mathlib.Core.List.{List};
 ghost use Prim.Native.Nat.{ℕ};
 ghost use Rattle.policies.specs.Allowance.{counted, allowanceRule};
-ghost use Rattle.policies.specs.AllowanceLaws.{PassesAsOftenAsGiven};
 use interface::answers::PolicyAnswer;
 use interface::answers::QuestionKind;
 use interface::parties::Policy;
@@ -48,11 +47,4 @@ pub impl Policy for Allowance as AllowancePolicy {
             QuestionKind::Except => PolicyAnswer::Pass,
         }
     }
-}
-
-// Carries the law that an allowance passes a method's befores exactly as often as the method was given.
-pub fn allowance_stands() -> u8
-    ensures { λ _. ⌜ PassesAsOftenAsGiven ⌝ }
-{
-    0
 }

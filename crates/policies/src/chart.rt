@@ -5,6 +5,8 @@ ghost use Rattle.policies.specs.Chart.{AllLead};
 
 mod moves;
 
+pub use moves::ChartPolicy;
+
 // Boxes 0 to 15, of which one is current, and arrows between them. A question moves along the arrow that leaves the
 // current box on its kind and method.
 #[derive(Drop)]

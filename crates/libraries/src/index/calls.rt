@@ -6,7 +6,6 @@ ghost use Rattle.std.specs.Holes.{inserted, removed};
 ghost use Rattle.std.specs.declared.result.Result.the-variants.{Ok, Err};
 ghost use Rattle.libraries.specs.declared.binding.Binding.{Binding};
 ghost use Rattle.libraries.specs.Index.{lookup, entered, struck, indexRule, findKey, enterKey, strikeKey};
-ghost use Rattle.libraries.specs.IndexLaws.{FindAfterEnter, FindAfterStrike, StaysCanonical, SameValuesSameState};
 ghost use Rattle.libraries.specs.Places.{bindings, placeOf, holdsAt, positionOf, Within, Finds};
 use crate::binding::Binding;
 use crate::index::Index;
@@ -170,32 +169,4 @@ pub impl Library for Index as IndexLibrary {
             _ => LibraryAnswer::Raise(7),
         }
     }
-}
-
-// Carries the law that an entered key is found with its value, and every other key as before.
-pub fn enter_stands() -> u8
-    ensures { λ _. ⌜ FindAfterEnter ⌝ }
-{
-    0
-}
-
-// Carries the law that a struck key is absent, and every other key is found as before.
-pub fn strike_stands() -> u8
-    ensures { λ _. ⌜ FindAfterStrike ⌝ }
-{
-    0
-}
-
-// Carries the law that there are never more than 32 keys, and that they stay in order.
-pub fn canonical_states_stand() -> u8
-    ensures { λ _. ⌜ StaysCanonical ⌝ }
-{
-    0
-}
-
-// Carries the law that two indices with the same keys and values are equal.
-pub fn equal_states_stand() -> u8
-    ensures { λ _. ⌜ SameValuesSameState ⌝ }
-{
-    0
 }

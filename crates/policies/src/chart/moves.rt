@@ -1,7 +1,6 @@
 ghost use mathlib.Core.Path.{_≡_};
 ghost use Prim.Native.Nat.{ℕ, _<_};
 ghost use Rattle.policies.specs.Chart.{noArrows, slot, arrowAt, chartRule, drawn};
-ghost use Rattle.policies.specs.ChartLaws.{OneArrowDrawn};
 use crate::chart::Chart;
 use crate::refusal::ArrowFault;
 use interface::answers::PolicyAnswer;
@@ -77,11 +76,4 @@ pub impl Policy for Chart as ChartPolicy {
             QuestionKind::Except => PolicyAnswer::Pass,
         }
     }
-}
-
-// Carries the law that drawing draws one arrow and leaves every other as it was.
-pub fn drawing_stands() -> u8
-    ensures { λ _. ⌜ OneArrowDrawn ⌝ }
-{
-    0
 }
