@@ -1,8 +1,6 @@
 -- Equal parties answer alike and stay equal.
-use mathlib.Core.Path.{_≡_, refl, ap}
-use mathlib.Core.List.{List, [], _∷_}
-use Rattle.interface.specs.Rules.{LibraryRule, PolicyRule}
-use Rattle.interface.specs.Equality.{Equal, Call, Question, libraryAnswers, libraryAfter, policyAnswers, policyAfter, LibrariesStayEqual, PoliciesStayEqual}
+use mathlib.Core.Path.{_≡_}
+use Rattle.interface.specs.Equality.{libraryAnswers, libraryAfter, policyAnswers, policyAfter, LibrariesStayEqual, PoliciesStayEqual}
 
 pub libraries-stay-equal : {State : Type 0} → LibrariesStayEqual State
 libraries-stay-equal rule₁ rule₂ s₁ s₂ calls e =

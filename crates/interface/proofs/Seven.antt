@@ -1,9 +1,7 @@
 -- Up to seven values can be read back from an entry.
-use mathlib.Core.Path.{_≡_, refl}
-use mathlib.Core.List.{List, [], _∷_}
-use Prim.Native.Nat.{_≤_}
+use mathlib.Core.Path.{refl}
+use mathlib.Core.List.{[], _∷_}
 use native.Mathlib.Omega.{arith}
-use lib.ListN.{length, take}
 use Rattle.interface.specs.Entries.{KeepsUpToSeven}
 
 pub keeps-up-to-seven : KeepsUpToSeven

@@ -1,7 +1,4 @@
 ghost use mathlib.Core.Path.{_≡_};
-ghost use lib.ListN.{getD};
-ghost use lib.IntN.{pos};
-ghost use Rattle.interface.specs.declared.value.Value.the-variants.{Number};
 ghost use Rattle.interface.specs.Entries.{valueAt, firstSeven, libraryEntry, questionEntry};
 use crate::answers::LibraryAnswer;
 use crate::answers::PolicyAnswer;

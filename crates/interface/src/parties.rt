@@ -1,6 +1,4 @@
 ghost use mathlib.Core.Path.{_≡_};
-ghost use mathlib.Core.List.{List};
-ghost use Prim.Native.Nat.{ℕ};
 ghost use Rattle.interface.specs.Rules.{LibraryRule, PolicyRule};
 use crate::answers::LibraryAnswer;
 use crate::answers::PolicyAnswer;

@@ -4,7 +4,6 @@ use Prim.Native.Nat.{ℕ}
 use native.Mathlib.Omega.{arith}
 use mathlib.Core.Bool.{true}
 use lib.IntN.{ℤ, pos}
-use lib.Signed.{leZ}
 use Rattle.interface.specs.declared.answers.LibraryAnswer.the-variants.{Return, Raise}
 use Rattle.std.proofs.shelf.Signed.{ints}
 use Rattle.libraries.specs.Arguments.{Step, raise, done, same}

@@ -1,14 +1,14 @@
 -- The laws of the index.
 use mathlib.Core.Path.{_≡_, refl, sym, _∙_, ap, subst}
 use mathlib.Core.List.{List, [], _∷_}
-use mathlib.Core.Bool.{Bool, true, false, cond, _&&_, _||_}
-use mathlib.Core.Logic.{_⊎_, inl, inr, ⊎-elim}
-use Prim.Native.Nat.{ℕ, suc, _+_, _≤_, _<_}
+use mathlib.Core.Bool.{true, false, cond, _||_}
+use mathlib.Core.Logic.{_⊎_, ⊎-elim}
+use Prim.Native.Nat.{ℕ, suc, _≤_}
 use native.Mathlib.Nat.{le-trans}
 use native.Mathlib.Omega.{arith}
 use lib.Dec.{eqb, ltb}
 use lib.IntN.{ℤ, pos}
-use lib.Signed.{ltZ, leZ}
+use lib.Signed.{ltZ}
 use lib.ListN.{length}
 use Rattle.interface.specs.Equality.{Call, libraryAfter}
 use Rattle.interface.specs.Values.{numberOf}
@@ -18,13 +18,13 @@ use Rattle.std.specs.declared.option.Option.{Option}
 use Rattle.std.specs.declared.option.Option.the-variants.{None, Some}
 use Rattle.std.proofs.shelf.Signed.{ints}
 use Rattle.std.proofs.shelf.Tests.{cases-bool, and-parts, cond-both, ltb-true, or-cases, both-ways}
-use Rattle.libraries.specs.Arguments.{Step, raise, done, same, withOne, withTwo}
-use Rattle.libraries.specs.Index.{bound, belowAll, ordered, lookup, hasKey, entered, struck, found, findKey, enterKey, strikeKey, indexRule}
+use Rattle.libraries.specs.Arguments.{Step, done, same, withOne, withTwo}
+use Rattle.libraries.specs.Index.{belowAll, ordered, lookup, hasKey, entered, struck, found, findKey, enterKey, strikeKey, indexRule}
 use Rattle.libraries.specs.IndexLaws.{findAnswer, OthersAsBefore, FindAfterEnter, FindAfterStrike, Canonical, StaysCanonical, SameValuesSameState}
 use Rattle.libraries.specs.declared.binding.Binding.{Binding}
 use Rattle.libraries.proofs.Answered.{no-return, same-is}
 use Rattle.libraries.proofs.Positions.{same-binding}
-use Rattle.libraries.proofs.Sorted.{Order, below, equal, above, order, none-below, below-more, ordered-entered, ordered-struck}
+use Rattle.libraries.proofs.Sorted.{below, equal, above, order, none-below, below-more, ordered-entered, ordered-struck}
 
 same-self : (k : ℤ) → same k k ≡ true
 same-self k = grind (arith, ints)

@@ -1,9 +1,8 @@
 -- The laws of the page.
-use mathlib.Core.Path.{_≡_, refl, sym, _∙_, ap, subst}
+use mathlib.Core.Path.{_≡_, refl, sym, _∙_, ap}
 use mathlib.Core.List.{List, [], _∷_, _++_}
-use mathlib.Core.Bool.{Bool, true, false, cond, not, _&&_}
-use mathlib.Core.Logic.{_≢_, _⊎_, inl, inr, ⊎-elim}
-use Prim.Native.Nat.{ℕ, _+_, _≤_, _<_}
+use mathlib.Core.Bool.{true, false, not}
+use Prim.Native.Nat.{ℕ, _+_, _<_}
 use native.Mathlib.Omega.{arith}
 use borrow.Author.Needs.{needs}
 use lib.Dec.{eqb, ltb}
@@ -13,15 +12,14 @@ use lib.ListN.{length, getD, set, take, drop}
 use Rattle.interface.specs.Equality.{Call, libraryAfter}
 use Rattle.interface.specs.Values.{numberOf}
 use Rattle.interface.specs.declared.value.Value.{Value}
-use Rattle.interface.specs.declared.answers.LibraryAnswer.{LibraryAnswer}
-use Rattle.interface.specs.declared.answers.LibraryAnswer.the-variants.{Return, Raise}
+use Rattle.interface.specs.declared.answers.LibraryAnswer.the-variants.{Return}
 use Rattle.std.proofs.shelf.Lists.{length-set, getD-set-same, getD-set-other, places, take-at, drop-at, drop-more, take-append-drop, length-take-le, append-assoc}
 use Rattle.std.proofs.shelf.Signed.{ints}
-use Rattle.std.proofs.shelf.Tests.{cond-both, cond-true, ltb-true, and-parts, not-true, lt-ltb, cases-bool}
+use Rattle.std.proofs.shelf.Tests.{cond-both, ltb-true, and-parts, not-true, lt-ltb}
 use Rattle.libraries.proofs.Answered.{no-return, same-is}
-use Rattle.libraries.specs.Arguments.{Step, raise, done, same, withOne, withTwo}
+use Rattle.libraries.specs.Arguments.{Step, done, same, withOne, withTwo}
 use Rattle.libraries.specs.Page.{codeAt, readAt, putCode, putAt, joined, hyphenated, joinAt, pageRule}
-use Rattle.libraries.specs.PageLaws.{one, two, putsAt, joinsUpTo, mayWrite, noneWrites, PutIsRead, JoinKeepsTheRest}
+use Rattle.libraries.specs.PageLaws.{putsAt, joinsUpTo, mayWrite, noneWrites, PutIsRead, JoinKeepsTheRest}
 
 -- a step leaves a page of 256 codes, with the same code at p
 abbrev Keeps : List ℤ → ℕ → Step (List ℤ) → Type 0

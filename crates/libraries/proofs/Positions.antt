@@ -1,25 +1,21 @@
 -- What the place of a key means for finding, entering and striking.
-use mathlib.Core.Path.{_≡_, refl, sym, _∙_, ap, subst}
-use mathlib.Core.List.{List, [], _∷_, _++_}
-use mathlib.Core.Bool.{Bool, true, false, cond, _||_}
-use mathlib.Core.Logic.{_≢_, ⊎-elim}
+use mathlib.Core.Path.{_≡_, sym, _∙_, ap}
+use mathlib.Core.List.{List}
+use mathlib.Core.Bool.{true, false}
+use mathlib.Core.Logic.{⊎-elim}
 use Prim.Native.Nat.{ℕ, _+_, _-_, _≤_, _<_}
 use native.Mathlib.Omega.{arith}
-use borrow.Author.Needs.{needs}
-use lib.Dec.{ltb}
 use lib.IntN.{ℤ, pos}
-use lib.ListN.{length, getD, set, take, drop}
+use lib.ListN.{length, getD, set, take}
 use Rattle.std.specs.Holes.{inserted, removed}
 use Rattle.std.specs.declared.option.Option.the-variants.{None, Some}
-use Rattle.std.specs.declared.result.Result.{Result}
 use Rattle.std.specs.declared.result.Result.the-variants.{Ok, Err}
 use lib.Seq.{take-set-lt}
-use Rattle.std.proofs.shelf.Tests.{cases-bool, cases-lt, both-ways, or-left, or-right, or-from, lt-ltb, le-ltb}
-use Rattle.libraries.specs.Arguments.{raise, done}
-use Rattle.libraries.specs.Index.{bound, ordered, lookup, hasKey, entered, struck, enterKey, strikeKey}
+use Rattle.std.proofs.shelf.Tests.{cases-bool, cases-lt, both-ways}
+use Rattle.libraries.specs.Index.{bound, ordered, lookup, hasKey, entered, struck}
 use Rattle.libraries.specs.Places.{placeOf, holdsAt, positionOf}
 use Rattle.libraries.specs.declared.binding.Binding.{Binding}
-use Rattle.libraries.proofs.Sorted.{place-le, holds-outside, holds-has, lookup-at, entered-set, entered-inserted, struck-removed, ordered-entered, ordered-struck}
+use Rattle.libraries.proofs.Sorted.{place-le, holds-outside, holds-has, lookup-at, entered-set, entered-inserted, struck-removed}
 
 pub same-binding : (k k′ v v′ : ℤ) → k′ ≡ k → v′ ≡ v → bound k′ v′ ≡ bound k v
 same-binding k k′ v v′ e f = cc

@@ -3,11 +3,10 @@
 use mathlib.Core.Path.{_≡_}
 use mathlib.Core.List.{List, [], _∷_}
 use mathlib.Core.Bool.{true}
-use Prim.Native.Nat.{ℕ, _≤_}
+use Prim.Native.Nat.{_≤_}
 use lib.IntN.{ℤ, pos}
 use lib.ListN.{length}
 use Rattle.interface.specs.Equality.{Call, libraryAfter}
-use Rattle.interface.specs.declared.value.Value.{Value}
 use Rattle.interface.specs.declared.value.Value.the-variants.{Number}
 use Rattle.interface.specs.declared.answers.LibraryAnswer.{LibraryAnswer}
 use Rattle.interface.specs.declared.answers.LibraryAnswer.the-variants.{Return, Raise}

@@ -1,9 +1,8 @@
 -- Arrows in a list: a chart without any, and one more drawn.
 use mathlib.Core.Path.{_≡_, refl, sym, _∙_, ap, subst}
-use mathlib.Core.List.{List}
-use mathlib.Core.Bool.{Bool, true, false, cond, _&&_}
-use mathlib.Core.Logic.{_≢_, _⊎_, ⊎-elim}
-use Prim.Native.Nat.{ℕ, zero, suc, _+_, _*_, _-_, _<_}
+use mathlib.Core.Bool.{true, false, _&&_}
+use mathlib.Core.Logic.{_⊎_, ⊎-elim}
+use Prim.Native.Nat.{ℕ, zero, suc, _-_, _<_}
 use native.Mathlib.Omega.{arith}
 use lib.Dec.{ltb}
 use lib.ListN.{length, getD, set, replicate}
@@ -19,7 +18,7 @@ use Rattle.interface.specs.declared.answers.QuestionKind.the-variants.{Before, 
 use Rattle.policies.specs.Chart.{Arrows, slot, arrowAt, leadsToBox, Drawn, drawnAt, drawnOn, drawn}
 use Rattle.policies.specs.ChartLaws.{Apart, OneArrowDrawn}
 use Rattle.policies.specs.declared.refusal.ArrowFault.{ArrowFault}
-use Rattle.policies.specs.declared.refusal.ArrowFault.the-variants.{NoSuchBox, NoSuchKind, NoSuchMethod, AlreadyThere}
+use Rattle.policies.specs.declared.refusal.ArrowFault.the-variants.{NoSuchBox, NoSuchMethod, AlreadyThere}
 
 pub none-lead : (n k : ℕ) → leadsToBox (getD (replicate n None) k None) ≡ true
 none-lead zero k = refl

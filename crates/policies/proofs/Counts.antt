@@ -1,20 +1,18 @@
 -- The law of the allowance.
-use mathlib.Core.Path.{_≡_, refl, sym, _∙_, ap, subst}
+use mathlib.Core.Path.{_≡_, sym, subst}
 use mathlib.Core.List.{List, [], _∷_}
-use mathlib.Core.Bool.{Bool, true, false, cond, _&&_}
-use mathlib.Core.Logic.{_≢_, _⊎_, ⊎-elim}
+use mathlib.Core.Bool.{false, _&&_}
+use mathlib.Core.Logic.{_⊎_, ⊎-elim}
 use Prim.Native.Nat.{ℕ, _+_, _-_, _≤_, _<_, min}
 use native.Mathlib.Omega.{arith}
 use lib.Dec.{eqb, ltb}
-use lib.IntN.{pos}
 use lib.ListN.{length, getD, set}
 use Rattle.std.proofs.shelf.Lists.{length-set, getD-set-same, getD-set-other, getD-past}
 use Rattle.std.proofs.shelf.Tests.{cases-bool, and-parts, and-cases, ltb-true, ltb-false, eqb-true, eqb-false, cond-both}
 use Rattle.interface.specs.Equality.{Question}
 use Rattle.interface.specs.declared.answers.QuestionKind.the-variants.{Before, After, Except}
 use Rattle.interface.specs.declared.answers.PolicyAnswer.{PolicyAnswer}
-use Rattle.interface.specs.declared.answers.PolicyAnswer.the-variants.{Pass, Stop}
-use Rattle.policies.specs.Allowance.{counted, allowanceRule}
+use Rattle.policies.specs.Allowance.{counted}
 use Rattle.policies.specs.AllowanceLaws.{beforeOf, ifPassed, asked, passed, PassesAsOftenAsGiven}
 
 -- what the rest of the questions owe after one before of n, b of which are of m

@@ -6,7 +6,6 @@ use lib.Dec.{ltb}
 use lib.IntN.{pos}
 use lib.ListN.{getD, set}
 use Rattle.interface.specs.Rules.{PolicyRule}
-use Rattle.interface.specs.declared.answers.QuestionKind.{QuestionKind}
 use Rattle.interface.specs.declared.answers.QuestionKind.the-variants.{Before, After, Except}
 use Rattle.interface.specs.declared.answers.PolicyAnswer.{PolicyAnswer}
 use Rattle.interface.specs.declared.answers.PolicyAnswer.the-variants.{Pass, Stop}

@@ -12,7 +12,6 @@ use Rattle.std.specs.declared.result.Result.{Result}
 use Rattle.std.specs.declared.result.Result.the-variants.{Ok, Err}
 use Rattle.interface.specs.Answers.{kindNumber, kindNumbered}
 use Rattle.interface.specs.Rules.{PolicyRule}
-use Rattle.interface.specs.declared.value.Value.{Value}
 use Rattle.interface.specs.declared.answers.QuestionKind.{QuestionKind}
 use Rattle.interface.specs.declared.answers.QuestionKind.the-variants.{Before, After, Except}
 use Rattle.interface.specs.declared.answers.PolicyAnswer.{PolicyAnswer}

@@ -1,13 +1,12 @@
 use borrow.Author.Needs.{needs}
-use native.Mathlib.Omega.{arith}
 use Prim.Native.Nat.{_<_, _≤_}
-use mathlib.Core.Path.{_≡_, sym, _∙_, ap}
+use mathlib.Core.Path.{sym, _∙_, ap}
 use lib.IntN.{ℤ, pos}
 use mir.Syntax.{w32}
 use Rattle.std.proofs.shelf.Signed.{toZ-ofZ}
 use Rattle.libraries.specs.declared.binding.Binding.{Binding}
-use lib.ListN.{length, take, getD}
-use Rattle.std.proofs.shelf.Lists.{length-take-le, getD-take, places}
+use lib.ListN.{length, getD}
+use Rattle.std.proofs.shelf.Lists.{getD-take, places}
 use Rattle.libraries.specs.Arguments.{same}
 use Rattle.libraries.specs.Index.{bound}
 use Rattle.libraries.specs.Places.{bindings}

@@ -6,7 +6,7 @@ use mathlib.Core.Bool.{true, false}
 use mathlib.Core.List.{List}
 use lib.IntN.{ℤ, pos}
 use lib.Signed.{ltZ}
-use lib.ListN.{length, take, getD, drop}
+use lib.ListN.{length, getD, drop}
 use mir.Syntax.{w32}
 use Rattle.std.proofs.shelf.Lists.{getD-take, places}
 use Rattle.std.proofs.shelf.Signed.{toZ-ofZ}

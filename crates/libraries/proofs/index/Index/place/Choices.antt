@@ -1,6 +1,6 @@
-use Prim.Native.Nat.{_+_, _≤_}
+use Prim.Native.Nat.{_+_}
 use mathlib.Core.Path.{_≡_}
-use lib.ListN.{drop, take, length}
+use lib.ListN.{drop, take}
 use Rattle.libraries.specs.Places.{placeOf}
 use Rattle.libraries.proofs.index.Index.place.Given as given
 

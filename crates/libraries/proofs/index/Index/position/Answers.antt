@@ -1,10 +1,7 @@
 use borrow.Author.Needs.{needs}
 use native.Mathlib.Omega.{arith}
-use Prim.Native.Nat.{ℕ, _≤_, _<_}
 use mathlib.Core.Path.{_≡_, sym, _∙_, ap}
-use mathlib.Core.Bool.{true, false}
-use mathlib.Core.List.{List}
-use lib.IntN.{ℤ, pos}
+use lib.IntN.{pos}
 use lib.ListN.{length}
 use mir.Syntax.{w32}
 use Rattle.std.proofs.shelf.Lists.{places, getD-take}
@@ -12,7 +9,7 @@ use Rattle.std.proofs.shelf.Signed.{toZ-ofZ}
 use Rattle.std.specs.declared.option.Option.the-variants.{Some}
 use Rattle.libraries.specs.Index.{bound}
 use Rattle.libraries.specs.declared.binding.Binding.{Binding}
-use Rattle.libraries.specs.Places.{bindings, placeOf, holdsAt, positionOf}
+use Rattle.libraries.specs.Places.{bindings}
 use Rattle.libraries.proofs.Positions.{is-ok, is-err, finds-ok, finds-err}
 use Rattle.libraries.proofs.index.Index.position.Needs as need
 

@@ -1,6 +1,6 @@
 use borrow.Author.Needs.{needs}
 use native.Mathlib.Omega.{arith}
-use mathlib.Core.Path.{_≡_, sym, _∙_, ap}
+use mathlib.Core.Path.{_∙_, ap}
 use Rattle.libraries.specs.Index.{ordered}
 use Rattle.libraries.specs.Places.{bindings}
 use Rattle.libraries.proofs.Sorted.{ordered-struck}

@@ -1,5 +1,4 @@
 use borrow.Author.Needs.{needs}
-use native.Mathlib.Omega.{arith}
 use Rattle.std.proofs.shelf.Lists.{places}
 use Rattle.libraries.proofs.Scan.{rotated-out}
 use Rattle.libraries.proofs.index.calls.remove.Needs as need
