@@ -1,0 +1,2 @@
+mod Seven
+mod Equals

@@ -1,0 +1,5 @@
+pub mod Values
+pub mod Answers
+pub mod Rules
+pub mod Equality
+pub mod Entries

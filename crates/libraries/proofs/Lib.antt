@@ -1,0 +1,7 @@
+mod Answered
+mod Joins
+mod PageKeeps
+mod Sorted
+mod Scan
+mod Positions
+mod Finds

@@ -1,0 +1,4 @@
+pub mod binding;
+pub mod index;
+pub mod laws;
+pub mod page;

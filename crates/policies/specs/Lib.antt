@@ -1,0 +1,5 @@
+pub mod Chart
+pub mod ChartLaws
+pub mod Allowance
+pub mod AllowanceLaws
+pub mod Pair

@@ -1,0 +1,5 @@
+pub mod allowance;
+pub mod chart;
+pub mod laws;
+pub mod pair;
+pub mod refusal;
