@@ -145,11 +145,11 @@ impl<I: Copy, H: Copy> StoredSheet<I, H> {
         if handlers.len() > 256 - self.handlers.len() {
             return Err(AddFault::Full);
         }
-        let first = self.code.len();
+        let begin = self.code.len();
         let guard = self.handlers.len();
         self.methods.push_reserved(Header {
             shape,
-            first,
+            first: begin,
             guard,
         });
         fill_reserved(&mut self.code, code);

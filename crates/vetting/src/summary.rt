@@ -23,9 +23,6 @@ impl<'a> Summary<'a> {
 pub(crate) impl fmt::Display for Summary<'_> as SummaryDisplay {
     fn fmt<W: fmt::Write>(&self, f: &mut fmt::Formatter<W>) -> fmt::Result {
         let sheet = self.sheet;
-        if sheet.library().is_empty() && sheet.method_count() == 0 {
-            return writeln!(f, " and is empty.");
-        }
         write_totals(f, sheet)?;
         for method in 0..sheet.method_count() {
             write_method(f, sheet, method)?;
