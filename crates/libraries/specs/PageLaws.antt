@@ -15,10 +15,11 @@ use Rattle.interface.specs.declared.answers.LibraryAnswer.the-variants.{Return}
 use Rattle.libraries.specs.Arguments.{same, done}
 use Rattle.libraries.specs.Page.{pageRule}
 
--- the values of a put or a read
+-- the values of a read or a join
 abbrev pub one : ℕ → List Value
 one p = Number (pos p) ∷ []
 
+-- the values of a put
 abbrev pub two : ℕ → ℕ → List Value
 two p c = Number (pos p) ∷ (Number (pos c) ∷ [])
 
