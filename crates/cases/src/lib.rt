@@ -1,4 +1,6 @@
 // A table of cases for a test program. A case is a text, the byte '%', a comment and a line feed.
+#![tactic(auto)]
+
 ghost use Rattle.std.specs.Prelude.{◌≡◌, ◌+◌, ◌<◌, ◌∷◌, ◌++◌, length, IfSome};
 
 #[derive(Drop)]

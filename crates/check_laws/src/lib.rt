@@ -1,4 +1,6 @@
 // The law of the check: it stands in the contract of a function, so that the check asks for its proof.
+#![tactic(auto)]
+
 ghost use Rattle.check_rules.specs.Check.{CheckedForm};
 ghost use Rattle.check_rules.specs.CheckLaws.{CheckLaw, SheetLaw};
 

@@ -1,4 +1,6 @@
 // Checks the sheet of each case of a table and prints what came of it, a line for each case.
+#![tactic(auto)]
+
 use cases::{Case, first_case};
 use checking::checked::CheckedSheet;
 use sheet::faults::Refusal;

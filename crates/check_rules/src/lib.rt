@@ -1,3 +1,5 @@
+#![tactic(auto)]
+
 pub mod around;
 pub mod effect;
 pub mod faults;

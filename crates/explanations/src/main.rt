@@ -1,4 +1,6 @@
 // Prints the report on the text of each case of a table, behind the comment of the case.
+#![tactic(auto)]
+
 use cases::first_case;
 use checking::checked::CheckedSheet;
 use sheet_text::read_sheet::ReadSheet;

@@ -1,3 +1,5 @@
+#![tactic(auto)]
+
 pub mod binding;
 pub mod index;
 pub mod laws;

@@ -1,4 +1,6 @@
 // Tests of libraries and policies at the edges of their ranges.
+#![tactic(auto)]
+
 #[cfg(test)]
 mod asking;
 #[cfg(test)]

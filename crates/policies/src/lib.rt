@@ -1,3 +1,5 @@
+#![tactic(auto)]
+
 pub mod allowance;
 pub mod chart;
 pub mod laws;

@@ -1,4 +1,6 @@
 // Reads the text of each case of a table as a sheet and prints what came of it, a line for each case.
+#![tactic(auto)]
+
 use cases::{Case, first_case};
 use sheet_text::read_sheet::ReadSheet;
 use std::io;

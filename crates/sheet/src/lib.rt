@@ -1,3 +1,5 @@
+#![tactic(auto)]
+
 pub mod faults;
 pub mod fields;
 pub mod instruction;

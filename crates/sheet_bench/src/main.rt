@@ -1,5 +1,7 @@
 // Measures reading and writing the largest sheet. The number of rounds is its one argument; without it nothing is measured,
 // so that the gate, which compares what a program writes, has nothing that changes from run to run.
+#![tactic(auto)]
+
 use sheet_text::read_sheet::ReadSheet;
 use std::alloc::{AllocError, Global};
 use std::env;

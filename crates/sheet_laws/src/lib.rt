@@ -1,4 +1,6 @@
 // The laws of the text layer: each stands in the contract of a function, so that the check asks for its proof.
+#![tactic(auto)]
+
 ghost use Rattle.sheet.specs.Laws.{TextLaw, FieldLaw, NumberLaw};
 
 // A text reads as a sheet exactly when it is that sheet's text, and the sheet is one that a text can say.

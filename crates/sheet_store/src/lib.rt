@@ -1,2 +1,4 @@
+#![tactic(auto)]
+
 pub mod storage;
 pub mod stored;

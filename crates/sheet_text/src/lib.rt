@@ -1,3 +1,5 @@
+#![tactic(auto)]
+
 mod line;
 pub mod lines;
 mod number;

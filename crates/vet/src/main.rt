@@ -1,4 +1,6 @@
 // Reads a sheet from standard input, checks it, and says what was read, or what is wrong with which line or method.
+#![tactic(auto)]
+
 use checking::checked::CheckedSheet;
 use sheet_text::read_sheet::ReadSheet;
 use std::io;

@@ -1,4 +1,6 @@
 // What `vet` tells people about a sheet.
+#![tactic(auto)]
+
 mod check_explanation;
 mod columns;
 mod explanation;
