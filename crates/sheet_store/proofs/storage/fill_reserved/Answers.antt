@@ -7,7 +7,7 @@ loop-x-preserved g c =
     let m = take_more c.args.block.now c.loop-x.x-index c.x-item.result (omega arith) in
     let a = append_assoc (vec_items c.args.list.now) (take c.loop-x.x-index c.args.block.now) (c.x-item.result ∷ []) in
     let i = c.loop-x.invariant in
-    let p = c.push-reserved.ensures in
+    let p = c.push_reserved.ensures in
     (omega arith, omega arith, cc)
 
 pub returns : goal.returns

@@ -6,12 +6,12 @@ use Rattle.libraries.proofs.Sorted.{ordered_entered}
 use Rattle.libraries.proofs.Positions.{stored_new}
 use Rattle.libraries.proofs.index.Index.add.Goals as goal
 
-pub invariant-of-self : goal.invariant-of-self
-invariant-of-self c =
+pub invariant_of-self : goal.invariant_of-self
+invariant_of-self c =
     let key = to_z-of_z w32 c.args.key c.ranges.key in
     let value = to_z-of_z w32 c.args.value c.ranges.value in
     let stored = stored_new c.args.self.now.places c.insert.new.places c.args.self.now.count c.args.place c.args.key _ c.args.value _ key value c.args.self.now.sorted c.requires.at c.insert.ensures in
-    (search rules, (omega arith, (ap ordered stored ∙ ordered_entered (bindings c.args.self.now) c.args.key c.args.value c.args.self.now.sorted, tt)))
+    record { whole = search rules; fits = omega arith; sorted = ap ordered stored ∙ ordered_entered (bindings c.args.self.now) c.args.key c.args.value c.args.self.now.sorted }
 
 pub returns : goal.returns
 returns c =

@@ -12,11 +12,11 @@ use Rattle.libraries.proofs.index.Index.place.Goals as goal
 abbrev Behind : List Binding → ℕ → ℤ → Type 0
 Behind bs i k = place_of bs k ≡ i + place_of (drop i bs) k
 
-pub returns-then-not-is-below : goal.returns-then-not-is-below
-returns-then-not-is-below c =
+pub returns-then-not-is_below : goal.returns-then-not-is_below
+returns-then-not-is_below c =
     let l : c.loop-i.i < length (bindings c.args.self.now) = search (rules, places) in
     let g = get_or-take c.args.self.now.count c.args.self.now.places c.loop-i.i (bound (pos 0) (pos 0)) c.loop-i-test.true in
-    let t : lt_z (get_or (bindings c.args.self.now) c.loop-i.i (bound (pos 0) (pos 0))).key c.args.key ≡ false = ap (λ (b : Binding). lt_z b.key c.args.key) g ∙ ap (λ (z : ℤ). lt_z (get_or c.args.self.now.places c.loop-i.i (bound (pos 0) (pos 0))).key z) (sym (to_z-of_z w32 c.args.key c.ranges.key)) ∙ sym c.is-below.ensures ∙ c.if-not-is-below.true in
+    let t : lt_z (get_or (bindings c.args.self.now) c.loop-i.i (bound (pos 0) (pos 0))).key c.args.key ≡ false = ap (λ (b : Binding). lt_z b.key c.args.key) g ∙ ap (λ (z : ℤ). lt_z (get_or c.args.self.now.places c.loop-i.i (bound (pos 0) (pos 0))).key z) (sym (to_z-of_z w32 c.args.key c.ranges.key)) ∙ sym c.is_below.ensures ∙ c.if-not-is_below.true in
     let inv = subst (Behind (bindings c.args.self.now) c.loop-i.i) (to_z-of_z w32 c.args.key c.ranges.key) c.loop-i.invariant in
     scan_here (bindings c.args.self.now) c.args.key c.loop-i.i (bound (pos 0) (pos 0)) l t inv
 
@@ -24,7 +24,7 @@ pub loop-i-preserved : goal.loop-i-preserved
 loop-i-preserved c =
     let l : c.loop-i.i < length (bindings c.args.self.now) = search (rules, places) in
     let g = get_or-take c.args.self.now.count c.args.self.now.places c.loop-i.i (bound (pos 0) (pos 0)) c.loop-i-test.true in
-    let t : lt_z (get_or (bindings c.args.self.now) c.loop-i.i (bound (pos 0) (pos 0))).key c.args.key ≡ true = ap (λ (b : Binding). lt_z b.key c.args.key) g ∙ ap (λ (z : ℤ). lt_z (get_or c.args.self.now.places c.loop-i.i (bound (pos 0) (pos 0))).key z) (sym (to_z-of_z w32 c.args.key c.ranges.key)) ∙ sym c.is-below.ensures ∙ c.if-not-is-below.false in
+    let t : lt_z (get_or (bindings c.args.self.now) c.loop-i.i (bound (pos 0) (pos 0))).key c.args.key ≡ true = ap (λ (b : Binding). lt_z b.key c.args.key) g ∙ ap (λ (z : ℤ). lt_z (get_or c.args.self.now.places c.loop-i.i (bound (pos 0) (pos 0))).key z) (sym (to_z-of_z w32 c.args.key c.ranges.key)) ∙ sym c.is_below.ensures ∙ c.if-not-is_below.false in
     let inv = subst (Behind (bindings c.args.self.now) c.loop-i.i) (to_z-of_z w32 c.args.key c.ranges.key) c.loop-i.invariant in
     subst (Behind (bindings c.args.self.now) (c.loop-i.i + 1)) (sym (to_z-of_z w32 c.args.key c.ranges.key)) (scan_more (bindings c.args.self.now) c.args.key c.loop-i.i (bound (pos 0) (pos 0)) l t inv)
 

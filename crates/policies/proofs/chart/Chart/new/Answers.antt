@@ -2,5 +2,5 @@ use Rattle.std.proofs.Common.{rules}
 use Rattle.policies.proofs.Arrows.{none_lead}
 use Rattle.policies.proofs.chart.Chart.new.Goals as goal
 
-pub invariant-of-result : goal.invariant-of-result
-invariant-of-result c = (search rules, (search rules, (none_lead 1536, tt)))
+pub invariant_of-result : goal.invariant_of-result
+invariant_of-result c = record { whole = search rules; boxed = search rules; lead = none_lead 1536 }

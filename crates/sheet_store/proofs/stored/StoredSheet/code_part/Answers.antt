@@ -7,8 +7,8 @@ pub returns-then-method-len : goal.returns-then-method-len
 returns-then-method-len g c =
     let s = c.args.self.now in
     let w = code_there s c.args.method (omega arith) in
-    let a = c.code-begin.ensures in
-    let b = c.code-begin-then-method-len.ensures ∙ ap (λ k. code_begin (vec_items s.methods) k (vec_len s.code)) (add-one c.args.method) in
+    let a = c.code_begin.ensures in
+    let b = c.code_begin-then-method-len.ensures ∙ ap (λ k. code_begin (vec_items s.methods) k (vec_len s.code)) (add-one c.args.method) in
     (omega arith, (omega arith, cc))
 
 pub returns-else-method-len : goal.returns-else-method-len

@@ -7,8 +7,8 @@ pub returns-then-method-len : goal.returns-then-method-len
 returns-then-method-len g c =
     let s = c.args.self.now in
     let w = handlers_there s c.args.method (omega arith) in
-    let a = c.handler-begin.ensures in
-    let b = c.handler-begin-then-method-len.ensures ∙ ap (λ k. handler_begin (vec_items s.methods) k (vec_len s.handlers)) (add-one c.args.method) in
+    let a = c.handler_begin.ensures in
+    let b = c.handler_begin-then-method-len.ensures ∙ ap (λ k. handler_begin (vec_items s.methods) k (vec_len s.handlers)) (add-one c.args.method) in
     (omega arith, (omega arith, cc))
 
 pub returns-else-method-len : goal.returns-else-method-len
