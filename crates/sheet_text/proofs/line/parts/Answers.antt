@@ -2,7 +2,7 @@ use Rattle.std.proofs.Common.{◌≡◌, ◌<◌, length, sym, ap, ◌∙◌, ar
 use Rattle.std.proofs.lemmas.List.{nil_from_length}
 use Rattle.sheet.specs.Lines.{last_byte}
 use Rattle.sheet_laws.proofs.Forms.{behind, parted_unended, parted_long, parted_ok}
-use Rattle.sheet_text.proofs.line.parts.Goals.{in-default-default-via-then-rest-lt1, in-default-default-via-else-rest-lt1+in-default·}
+use Rattle.sheet_text.proofs.line.parts.Goals.{in-default-default-via-then-rest-lt1, in-default-default-via-else-rest-lt1+in_default·}
 use Rattle.sheet_text.proofs.line.parts.Goals as goal
 
 pub returns-in-default-default : goal.returns-in-default-default
@@ -10,7 +10,7 @@ returns-in-default-default c =
     let line = c.args.line.now in
     let h : 0 < length line = omega (arith, ltb-false) in
     parted_unended line c.in-Some.letter h (sym c.of.ensures ∙ c.in-Some.is) (λ e.
-    elim c.in-default-default.branch [ in-default-default-via-then-rest-lt1 w ↦ let n = ap last_byte (nil_from_length (behind line) (omega (arith, ltb-true))) in omega arith | in-default-default-via-else-rest-lt1+in-default· w ↦ search rules ])
+    elim c.in-default-default.branch [ in-default-default-via-then-rest-lt1 w ↦ let n = ap last_byte (nil_from_length (behind line) (omega (arith, ltb-true))) in omega arith | in-default-default-via-else-rest-lt1+in_default· w ↦ search rules ])
 
 pub returns-then-fields-columns : goal.returns-then-fields-columns
 returns-then-fields-columns c =

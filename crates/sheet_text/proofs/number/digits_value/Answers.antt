@@ -8,11 +8,11 @@ use Rattle.sheet_laws.proofs.Columns.{value_below, digit_value_lem}
 use Rattle.sheet_text.proofs.number.digits_value.Goals.{then-b-lt48-via-then-b-lt48, then-b-lt48-via-else-b-lt48+then-b-gt57}
 use Rattle.sheet_text.proofs.number.digits_value.Goals as goal
 
-pub overflow-mul-value : goal.overflow-mul-value
-overflow-mul-value c = let b = value_below c.args.digits.now c.loop-b.b-index (omega arith) (omega arith) c.loop-b.invariant.0 in omega arith
+pub overflow_mul-value : goal.overflow_mul-value
+overflow_mul-value c = let b = value_below c.args.digits.now c.loop-b.b-index (omega arith) (omega arith) c.loop-b.invariant.0 in omega arith
 
-pub overflow-add-value : goal.overflow-add-value
-overflow-add-value c = let b = value_below c.args.digits.now c.loop-b.b-index (omega arith) (omega arith) c.loop-b.invariant.0 in omega arith
+pub overflow_add-value : goal.overflow_add-value
+overflow_add-value c = let b = value_below c.args.digits.now c.loop-b.b-index (omega arith) (omega arith) c.loop-b.invariant.0 in omega arith
 
 pub loop-b-preserved : goal.loop-b-preserved
 loop-b-preserved c =

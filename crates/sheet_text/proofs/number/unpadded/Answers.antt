@@ -9,5 +9,5 @@ loop-rest-preserved c =
     let p : 0 < length c.loop-rest.rest.now = omega (arith, ltb-false) in
     skip_one c.args.column.now c.loop-rest.rest.now p f c.loop-rest.invariant.0 c.loop-rest.invariant.1
 
-pub returns-in-default : goal.returns-in-default
-returns-in-default c = record { parts = c.loop-rest.invariant.1; first = λ e. let n = nil_from_length c.loop-rest.rest.now (omega (arith, ltb-true)) in let g = ap (λ x. get_or x 0 0) n in omega arith }
+pub returns-in_default : goal.returns-in_default
+returns-in_default c = record { parts = c.loop-rest.invariant.1; first = λ e. let n = nil_from_length c.loop-rest.rest.now (omega (arith, ltb-true)) in let g = ap (λ x. get_or x 0 0) n in omega arith }

@@ -6,4 +6,4 @@ use Rattle.sheet_text.proofs.reading.take_instruction.Goals as goal
 pub returns-in-Ok : goal.returns-in-Ok
 returns-in-Ok c =
     let k = c.in-Ok.ensures in
-    instruction_ok (sheet_of c.args.sheet.now) c.args.instruction (some_there (methods_of c.args.sheet.now) k.0) (sym c.last-has-no-handler.ensures ∙ c.if-not-last-has-no-handler.false) k.1 ∙ ap Ok (sym k.2)
+    instruction_ok (sheet_of c.args.sheet.now) c.args.instruction (some_there (methods_of c.args.sheet.now) k.0) (sym c.last_has_no_handler.ensures ∙ c.if-not-last_has_no_handler.false) k.1 ∙ ap Ok (sym k.2)

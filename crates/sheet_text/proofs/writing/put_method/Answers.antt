@@ -11,13 +11,13 @@ put-code-requires c =
     let m = method_at (sheet_of c.args.sheet.now) c.args.method in
     omega (arith, three_length (shape_text m.shape) (flat_map instruction_text m.code) (flat_map handler_text m.handlers), ap (λ x. length (shape_text x)) c.requires.0)
 
-pub put-all-handlers-requires : goal.put-all-handlers-requires
-put-all-handlers-requires c =
+pub put_all-handlers-requires : goal.put_all-handlers-requires
+put_all-handlers-requires c =
     let m = method_at (sheet_of c.args.sheet.now) c.args.method in
     omega (arith, three_length (shape_text m.shape) (flat_map instruction_text m.code) (flat_map handler_text m.handlers), ap (λ x. length (shape_text x)) c.requires.0, ap (λ xs. length (flat_map instruction_text xs)) c.code.ensures)
 
-pub put-all-requires : goal.put-all-requires
-put-all-requires c =
+pub put_all-requires : goal.put_all-requires
+put_all-requires c =
     let m = method_at (sheet_of c.args.sheet.now) c.args.method in
     omega (arith, three_length (shape_text m.shape) (flat_map instruction_text m.code) (flat_map handler_text m.handlers), ap (λ x. length (shape_text x)) c.requires.0, ap (λ xs. length (flat_map instruction_text xs)) c.code.ensures, ap (λ xs. length (flat_map handler_text xs)) c.handlers.ensures)
 
@@ -30,11 +30,11 @@ returns c =
     let t = flat_map instruction_text m.code in
     let u = flat_map handler_text m.handlers in
     let second = c.put-code.ensures.0 ∙ ap (λ x. at + length (shape_text x)) c.requires.0 in
-    let third = c.put-all-handlers.ensures.0 ∙ ap (λ xs. c.put-code.result + length (flat_map instruction_text xs)) c.code.ensures in
-    let end = c.put-all.ensures.0 ∙ ap (λ xs. c.put-all-handlers.result + length (flat_map handler_text xs)) c.handlers.ensures in (
+    let third = c.put_all-handlers.ensures.0 ∙ ap (λ xs. c.put-code.result + length (flat_map instruction_text xs)) c.code.ensures in
+    let end = c.put_all.ensures.0 ∙ ap (λ xs. c.put_all-handlers.result + length (flat_map handler_text xs)) c.handlers.ensures in (
       omega (arith, three_length s t u),
-      three_placed at c.put-code.result c.put-all-handlers.result s t u E c.put-code.new.out c.put-all-handlers.new.out c.put-all.new.out c.requires.1
+      three_placed at c.put-code.result c.put_all-handlers.result s t u E c.put-code.new.out c.put_all-handlers.new.out c.put_all.new.out c.requires.1
           (c.put-code.ensures.1 ∙ ap (λ x. placed at (shape_text x) E) c.requires.0) second
-          (c.put-all-handlers.ensures.1 ∙ ap (λ xs. placed c.put-code.result (flat_map instruction_text xs) c.put-code.new.out) c.code.ensures) third
-          (c.put-all.ensures.1 ∙ ap (λ xs. placed c.put-all-handlers.result (flat_map handler_text xs) c.put-all-handlers.new.out) c.handlers.ensures),
+          (c.put_all-handlers.ensures.1 ∙ ap (λ xs. placed c.put-code.result (flat_map instruction_text xs) c.put-code.new.out) c.code.ensures) third
+          (c.put_all.ensures.1 ∙ ap (λ xs. placed c.put_all-handlers.result (flat_map handler_text xs) c.put_all-handlers.new.out) c.handlers.ensures),
     )

@@ -25,13 +25,13 @@ pub unwrap-shape-requires : goal.unwrap-shape-requires
 unwrap-shape-requires c =
     let ms = methods_of c.args.sheet.now in
     let i = c.loop-method.method in
-    ap is_some (c.shape.ensures ∙ ap (option_map (λ m. m.shape)) (slice_get-get_or ms i nobody (omega (arith, c.method-count-method-end.ensures.0))))
+    ap is_some (c.shape.ensures ∙ ap (option_map (λ m. m.shape)) (slice_get-get_or ms i nobody (omega (arith, c.method_count-method-end.ensures.0))))
 
-pub put-method-next-requires : goal.put-method-next-requires
-put-method-next-requires c =
+pub put_method-next-requires : goal.put_method-next-requires
+put_method-next-requires c =
     let ms = methods_of c.args.sheet.now in
     let i = c.loop-method.method in
-    let h : i < length ms = omega (arith, c.method-count-method-end.ensures.0) in
+    let h : i < length ms = omega (arith, c.method_count-method-end.ensures.0) in
     let is = shape_is ms i c.unwrap-shape.result h (sym c.shape.ensures ∙ c.unwrap-shape.ensures) in
     (is, omega (arith, joined_room method_text ms i (method_at (sheet_of c.args.sheet.now) i) (get_or_default ms i nobody _ h) h))
 
@@ -40,13 +40,13 @@ loop-method-preserved c =
     let ms = methods_of c.args.sheet.now in
     let i = c.loop-method.method in
     let m = method_at (sheet_of c.args.sheet.now) i in
-    let h : i < length ms = omega (arith, c.method-count-method-end.ensures.0) in
+    let h : i < length ms = omega (arith, c.method_count-method-end.ensures.0) in
     let is = get_or_default ms i nobody m h in
-    let p = c.put-method-next.ensures in
-    (p.0 ∙ next_place method_text ms i m is h c.args.at c.loop-method.next c.args.out.now c.loop-method.out c.put-method-next.new.out c.requires c.loop-method.invariant.0 c.loop-method.invariant.1 p.1, next_placed method_text ms i m is h c.args.at c.loop-method.next c.args.out.now c.loop-method.out c.put-method-next.new.out c.requires c.loop-method.invariant.0 c.loop-method.invariant.1 p.1)
+    let p = c.put_method-next.ensures in
+    (p.0 ∙ next_place method_text ms i m is h c.args.at c.loop-method.next c.args.out.now c.loop-method.out c.put_method-next.new.out c.requires c.loop-method.invariant.0 c.loop-method.invariant.1 p.1, next_placed method_text ms i m is h c.args.at c.loop-method.next c.args.out.now c.loop-method.out c.put_method-next.new.out c.requires c.loop-method.invariant.0 c.loop-method.invariant.1 p.1)
 
 pub returns : goal.returns
 returns c =
     let ms = methods_of c.args.sheet.now in
-    let t = ap (flat_map method_text) (take_all c.loop-method.method ms (omega (arith, c.method-count-method-end.ensures.0))) in
+    let t = ap (flat_map method_text) (take_all c.loop-method.method ms (omega (arith, c.method_count-method-end.ensures.0))) in
     (c.loop-method.invariant.0 ∙ ap (λ y. c.args.at + length y) t, c.loop-method.invariant.1 ∙ ap (λ y. placed c.args.at y c.args.out.now) t)

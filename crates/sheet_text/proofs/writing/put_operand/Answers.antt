@@ -6,17 +6,17 @@ use Rattle.sheet_laws.proofs.Places.{part_length, placed_column}
 use Rattle.sheet_laws.proofs.Signs.{operand_fits, operand_text, length_operand, operand_short}
 use Rattle.sheet_text.proofs.writing.put_operand.Goals as goal
 
-pub overflow-add-at : goal.overflow-add-at
-overflow-add-at c = omega (arith, length_operand c.args.z c.ranges.z)
+pub overflow_add-at : goal.overflow_add-at
+overflow_add-at c = omega (arith, length_operand c.args.z c.ranges.z)
 
-pub slice-bounds-write-digits-end : goal.slice-bounds-write-digits-end
-slice-bounds-write-digits-end c = omega (arith, length_operand c.args.z c.ranges.z)
+pub slice_bounds-write_digits-end : goal.slice_bounds-write_digits-end
+slice_bounds-write_digits-end c = omega (arith, length_operand c.args.z c.ranges.z)
 
-pub write-digits-requires : goal.write-digits-requires
-write-digits-requires c =
+pub write_digits-requires : goal.write_digits-requires
+write_digits-requires c =
     let l = length_operand c.args.z c.ranges.z in
     let room : c.args.at + 12 ≤ length c.args.out.now = omega arith in
-    omega (arith, part_length c.args.at 12 c.args.out.now room, operand_fits (lt_z (to_z w32 (of_z w32 c.args.z)) (pos 0)) c.unsigned-abs.result (omega arith))
+    omega (arith, part_length c.args.at 12 c.args.out.now room, operand_fits (lt_z (to_z w32 (of_z w32 c.args.z)) (pos 0)) c.unsigned_abs.result (omega arith))
 
 pub returns : goal.returns
 returns c =
@@ -25,5 +25,5 @@ returns c =
     let z = c.args.z in
     let l = length_operand z c.ranges.z in
     let room : at + 12 ≤ length E = omega arith in
-    let is = operand_text z c.unsigned-abs.result c.ranges.z c.unsigned-abs.ensures.value in
-    (ap (λ k. at + k) (sym l), placed_column at 12 E c.write-digits.new.out (signed_decimal z) room (operand_short z c.ranges.z) (c.write-digits.ensures ∙ ap (column (length (take (at + 12 - at) (drop at E)))) is))
+    let is = operand_text z c.unsigned_abs.result c.ranges.z c.unsigned_abs.ensures.value in
+    (ap (λ k. at + k) (sym l), placed_column at 12 E c.write_digits.new.out (signed_decimal z) room (operand_short z c.ranges.z) (c.write_digits.ensures ∙ ap (column (length (take (at + 12 - at) (drop at E)))) is))

@@ -2,8 +2,8 @@ use Rattle.sheet_store.specs.Stored.{sheet_of}
 use Rattle.sheet_laws.proofs.TextLaws.{one_text, left_in_range}
 use Rattle.sheet_text.proofs.read_sheet.ReadSheet.read.Goals as goal
 
-pub invariant-of-self : goal.invariant-of-self
-invariant-of-self c = (left_in_range c.args.text.now c.fill.result (sheet_of c.fill.new.sheet) c.fill.ensures, tt)
+pub invariant_of-self : goal.invariant_of-self
+invariant_of-self c = (left_in_range c.args.text.now c.fill.result (sheet_of c.fill.new.sheet) c.fill.ensures, tt)
 
 pub returns : goal.returns
 returns c = record { answer = c.fill.ensures; one_text = one_text c.args.text.now }
