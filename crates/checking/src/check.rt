@@ -28,14 +28,14 @@ fn check_in<'a>(
     out: &mut CheckedStore,
     buffer: &mut [Instruction<PlainLocation>],
 ) -> Result<(), MethodFault>
-    requires shapes_len_bound { length shapes.now ≤ 16 }
-    requires method_len { length (method_at (sheet_of read.now) method).code ≡ length buffer.old }
-    requires buffer_len_bound { length buffer.old ≤ 2048 }
-    requires no_shape_value { slice_index_or shapes.now method no_shape ≡ (method_at (sheet_of read.now) method).shape }
-    requires method_in_bounds { method < length shapes.now }
-    requires out_len_bound { length (methods_of out.old) < 16 }
-    requires buffer_bound { instructions_in (methods_of out.old) + length buffer.old ≤ 2048 }
-    requires method_bound { handlers_in (methods_of out.old) + length (method_at (sheet_of read.now) method).handlers ≤ 256 }
+    requires few_shapes { length shapes.now ≤ 16 }
+    requires buffer_fits { length (method_at (sheet_of read.now) method).code ≡ length buffer.old }
+    requires few_instructions { length buffer.old ≤ 2048 }
+    requires own_shape { slice_index_or shapes.now method no_shape ≡ (method_at (sheet_of read.now) method).shape }
+    requires method_exists { method < length shapes.now }
+    requires method_room { length (methods_of out.old) < 16 }
+    requires code_room { instructions_in (methods_of out.old) + length buffer.old ≤ 2048 }
+    requires handler_room { handlers_in (methods_of out.old) + length (method_at (sheet_of read.now) method).handlers ≤ 256 }
     ensures { MatchResult result (λ _. Grown (sheet_of read.now).library shapes.now (method_at (sheet_of read.now) method) (sheet_of out.old) (sheet_of out.new)) (λ e. method_checked (sheet_of read.now).library shapes.now (method_at (sheet_of read.now) method) ≡ Err e) }
 {
     let own = shapes[method];
@@ -61,13 +61,13 @@ fn check_one(
     shapes: &[Shape],
     out: &mut CheckedStore,
 ) -> Result<(), MethodFault>
-    requires shapes_len_bound { length shapes.now ≤ 16 }
-    requires method_len_bound { length (method_at (sheet_of read.now) method).code ≤ 2048 }
-    requires no_shape_value { slice_index_or shapes.now method no_shape ≡ (method_at (sheet_of read.now) method).shape }
-    requires method_in_bounds { method < length shapes.now }
-    requires out_len_bound { length (methods_of out.old) < 16 }
-    requires method_bound { instructions_in (methods_of out.old) + length (method_at (sheet_of read.now) method).code ≤ 2048 }
-    requires method_bound_2 { handlers_in (methods_of out.old) + length (method_at (sheet_of read.now) method).handlers ≤ 256 }
+    requires few_shapes { length shapes.now ≤ 16 }
+    requires few_instructions { length (method_at (sheet_of read.now) method).code ≤ 2048 }
+    requires own_shape { slice_index_or shapes.now method no_shape ≡ (method_at (sheet_of read.now) method).shape }
+    requires method_exists { method < length shapes.now }
+    requires method_room { length (methods_of out.old) < 16 }
+    requires code_room { instructions_in (methods_of out.old) + length (method_at (sheet_of read.now) method).code ≤ 2048 }
+    requires handler_room { handlers_in (methods_of out.old) + length (method_at (sheet_of read.now) method).handlers ≤ 256 }
     ensures { MatchResult result (λ _. Grown (sheet_of read.now).library shapes.now (method_at (sheet_of read.now) method) (sheet_of out.old) (sheet_of out.new)) (λ e. method_checked (sheet_of read.now).library shapes.now (method_at (sheet_of read.now) method) ≡ Err e) }
 {
     let mut buffer = [Instruction::Return; 2048];
@@ -101,11 +101,11 @@ fn check_methods(
     shapes: &[Shape],
     out: &mut CheckedStore,
 ) -> Result<(), CheckFault>
-    requires shapes_value { shapes.now ≡ shapes_of (methods_of read.now) }
-    requires out_value { sheet_of out.old ≡ record { library = (sheet_of read.now).library; methods = [] } }
-    requires read_len_bound { length (methods_of read.now) ≤ 16 }
-    requires read_bound { instructions_in (methods_of read.now) ≤ 2048 }
-    requires read_bound_2 { handlers_in (methods_of read.now) ≤ 256 }
+    requires own_shapes { shapes.now ≡ shapes_of (methods_of read.now) }
+    requires fresh_out { sheet_of out.old ≡ record { library = (sheet_of read.now).library; methods = [] } }
+    requires few_methods { length (methods_of read.now) ≤ 16 }
+    requires few_instructions { instructions_in (methods_of read.now) ≤ 2048 }
+    requires few_handlers { handlers_in (methods_of read.now) ≤ 256 }
     ensures { MatchResult result (λ _. AllMade (sheet_of read.now) (sheet_of out.new)) (λ e. methods_checked (sheet_of read.now).library (shapes_of (methods_of read.now)) 0 (methods_of read.now) ≡ Err e) }
 {
     for method in 0..read.method_count() {
@@ -120,9 +120,9 @@ fn check_listed(
     shapes: &mut [Shape],
     out: &mut CheckedStore,
 ) -> Result<(), CheckFault>
-    requires shapes_len { length shapes.old ≡ length (methods_of read.now) }
-    requires out_value { sheet_of out.old ≡ record { library = (sheet_of read.now).library; methods = [] } }
-    requires read_value { in_range (sheet_of read.now) ≡ true }
+    requires shape_each { length shapes.old ≡ length (methods_of read.now) }
+    requires fresh_out { sheet_of out.old ≡ record { library = (sheet_of read.now).library; methods = [] } }
+    requires read_in_range { in_range (sheet_of read.now) ≡ true }
     ensures { MatchResult result (λ _. AllMade (sheet_of read.now) (sheet_of out.new)) (λ e. methods_checked (sheet_of read.now).library (shapes_of (methods_of read.now)) 0 (methods_of read.now) ≡ Err e) }
 {
     collect_shapes(read, shapes);

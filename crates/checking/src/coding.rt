@@ -80,8 +80,8 @@ fn operand(
     operand_use: OperandUse,
     number: i32,
 ) -> Option<Operand<PlainLocation>>
-    requires library_len_bound { length around.library.now ≤ 32 }
-    requires shapes_len_bound { length around.shapes.now ≤ 16 }
+    requires few_library_methods { length around.library.now ≤ 32 }
+    requires few_shapes { length around.shapes.now ≤ 16 }
     ensures { result ≡ meaning (place_of around.entry) operand_use number }
 {
     match operand_use {
@@ -101,8 +101,8 @@ pub(crate) fn decode(
     read: ReadInstruction,
     around: Around<'_>,
 ) -> Option<Instruction<PlainLocation>>
-    requires library_len_bound { length around.library.now ≤ 32 }
-    requires shapes_len_bound { length around.shapes.now ≤ 16 }
+    requires few_library_methods { length around.library.now ≤ 32 }
+    requires few_shapes { length around.shapes.now ≤ 16 }
     ensures { result ≡ decoded (place_of around.entry) read }
 {
     let operand = operand(around, read.op.row().operand, read.operand)?;

@@ -22,9 +22,9 @@ fn decode_all(
     around: Around<'_>,
     out: &mut [Instruction<PlainLocation>],
 ) -> Result<(), usize>
-    requires library_len_bound { length around.library.now ≤ 32 }
-    requires shapes_len_bound { length around.shapes.now ≤ 16 }
-    requires read_len { length read.now ≡ length out.old }
+    requires few_library_methods { length around.library.now ≤ 32 }
+    requires few_shapes { length around.shapes.now ≤ 16 }
+    requires out_fits { length read.now ≡ length out.old }
     ensures { MatchResult result (λ _. decoded_from (place_of around.entry) 0 read.now ≡ Ok out.new) (λ at. decoded_from (place_of around.entry) 0 read.now ≡ Err at) }
 {
     for (at, instruction) in read.iter().enumerate() {
@@ -149,9 +149,9 @@ fn find_depths(
     around: Around<'_>,
     depths: &mut [Option<u16>],
 ) -> Result<(), usize>
-    requires code_len { length code.now ≡ length depths.old }
-    requires depths_value { depths.old ≡ slice_set (replicate (length code.now) None) 0 (Some 0) }
-    requires all { All (λ b. b < length depths.old) (catches handlers.now) }
+    requires depth_each { length code.now ≡ length depths.old }
+    requires start_depths { depths.old ≡ slice_set (replicate (length code.now) None) 0 (Some 0) }
+    requires catches_inside { All (λ b. b < length depths.old) (catches handlers.now) }
     ensures { MatchResult result (λ _. depths_of (place_of around.entry) code.now handlers.now ≡ Ok depths.new) (λ at. depths_of (place_of around.entry) code.now handlers.now ≡ Err at) }
 {
     mark_catches(handlers, depths);
@@ -164,8 +164,8 @@ fn depths_agree(
     handlers: &[Handler<PlainLocation>],
     around: Around<'_>,
 ) -> Result<(), usize>
-    requires code_len_bound { length code.now ≤ 2048 }
-    requires all { All (λ b. b < length code.now) (catches handlers.now) }
+    requires few_instructions { length code.now ≤ 2048 }
+    requires catches_inside { All (λ b. b < length code.now) (catches handlers.now) }
     ensures { MatchResult result (λ _. is_ok (depths_of (place_of around.entry) code.now handlers.now) ≡ true) (λ at. depths_of (place_of around.entry) code.now handlers.now ≡ Err at) }
 {
     let mut depths = [None; 2048];
@@ -180,11 +180,11 @@ pub(crate) fn check_method(
     around: Around<'_>,
     out: &mut [Instruction<PlainLocation>],
 ) -> Result<(), MethodFault>
-    requires library_len_bound { length around.library.now ≤ 32 }
-    requires shapes_len_bound { length around.shapes.now ≤ 16 }
-    requires read_len { length read.now ≡ length out.old }
-    requires read_len_bound { length read.now ≤ 2048 }
-    requires count_value { around.count ≡ length read.now }
+    requires few_library_methods { length around.library.now ≤ 32 }
+    requires few_shapes { length around.shapes.now ≤ 16 }
+    requires out_fits { length read.now ≡ length out.old }
+    requires few_instructions { length read.now ≤ 2048 }
+    requires own_count { around.count ≡ length read.now }
     ensures { MatchResult result (λ _. method_checked around.entry.library.now around.entry.shapes.now (method_of around.entry.own read.now handlers.now) ≡ Ok (method_of around.entry.own out.new handlers.now)) (λ e. method_checked around.entry.library.now around.entry.shapes.now (method_of around.entry.own read.now handlers.now) ≡ Err e) }
 {
     let own = around.own;

@@ -87,8 +87,8 @@ fn read_instruction(fields: &[u8]) -> Result<Line, FieldFault>
 
 // The location in the first field, and the columns behind it.
 fn next_location(columns: &[u8], field: Field) -> Result<(PlainLocation, &[u8]), FieldFault>
-    requires field_in_bounds { width_of field ≤ length columns.now }
-    requires field_value { (lowest field ≡ pos 0) × (highest field ≡ pos 2048) }
+    requires enough_columns { width_of field ≤ length columns.now }
+    requires holds_location { (lowest field ≡ pos 0) × (highest field ≡ pos 2048) }
     ensures { MatchResult result (λ p. (field_read field (take (width_of field) columns.now) ≡ Ok (pos p.0.number)) × (p.1.now ≡ drop (width_of field) columns.now) × (length p.1.now + width_of field ≡ length columns.now)) (λ e. field_read field (take (width_of field) columns.now) ≡ Err e) }
 {
     let (number, rest) = next(columns, field)?;

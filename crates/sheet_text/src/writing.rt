@@ -152,8 +152,8 @@ impl Piece for Handler<PlainLocation> {
 
 // Writes an own method with its instructions and handlers.
 fn put_method(sheet: &TextSheet, method: usize, shape: Shape, out: &mut [u8], at: usize) -> usize
-    requires shape_value { shape ≡ (method_at (sheet_of sheet.now) method).shape }
-    requires method_in_bounds { at + length (method_text (method_at (sheet_of sheet.now) method)) ≤ length out.old }
+    requires own_shape { shape ≡ (method_at (sheet_of sheet.now) method).shape }
+    requires room { at + length (method_text (method_at (sheet_of sheet.now) method)) ≤ length out.old }
     ensures { (result ≡ at + length (method_text (method_at (sheet_of sheet.now) method))) × (out.new ≡ placed at (method_text (method_at (sheet_of sheet.now) method)) out.old) }
 {
     let code = shape.put(out, at);

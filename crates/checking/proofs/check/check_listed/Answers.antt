@@ -4,5 +4,5 @@ use Rattle.checking.proofs.check.check_listed.Goals as goal
 
 pub check-methods-requires : goal.check-methods-requires
 check-methods-requires c =
-    let w = within_from (sheet_of c.args.read.now) c.requires.2 in
-    (c.collect-shapes.ensures, c.requires.1, w.methods, w.instructions, w.handlers)
+    let w = within_from (sheet_of c.args.read.now) c.requires.read_in_range in
+    record { own_shapes = c.collect-shapes.ensures; fresh_out = c.requires.fresh_out; few_methods = w.methods; few_instructions = w.instructions; few_handlers = w.handlers }

@@ -10,5 +10,5 @@ check-in-requires c =
     let n = length c.code-count.result.now in
     let e = ap length c.code-count.ensures in
     let d : Instruction PlainLocation = Return in
-    let l = part_long 2048 n d (omega (arith, c.requires.1)) in
-    (c.requires.0, sym e ∙ sym l, omega (arith, c.requires.1), c.requires.2, c.requires.3, c.requires.4, omega (arith, c.requires.5), c.requires.6)
+    let l = part_long 2048 n d (omega (arith, c.requires.few_instructions)) in
+    record { few_shapes = c.requires.few_shapes; buffer_fits = sym e ∙ sym l; few_instructions = omega (arith, c.requires.few_instructions); own_shape = c.requires.own_shape; method_exists = c.requires.method_exists; method_room = c.requires.method_room; code_room = omega (arith, c.requires.code_room); handler_room = c.requires.handler_room }

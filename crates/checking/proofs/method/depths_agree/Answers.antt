@@ -9,6 +9,6 @@ pub find-depths-requires : goal.find-depths-requires
 find-depths-requires c =
     let n = length c.args.code.now in
     let d : Option ℕ = None in
-    let p = begun_part 2048 n d (Some 0) c.requires.0 in
+    let p = begun_part 2048 n d (Some 0) c.requires.few_instructions in
     let l = ap length p ∙ length-set (replicate n d) 0 (Some 0) ∙ length-replicate n d in
-    (sym l, p, subst (λ k. All (λ b. b < k) (catches c.args.handlers.now)) (sym l) c.requires.1)
+    (sym l, p, subst (λ k. All (λ b. b < k) (catches c.args.handlers.now)) (sym l) c.requires.catches_inside)

@@ -33,7 +33,7 @@ put_method-next-requires c =
     let i = c.loop-method.method in
     let h : i < length ms = omega (arith, c.method_count-method-end.ensures.0) in
     let is = shape_is ms i c.unwrap-shape.result h (sym c.shape.ensures ∙ c.unwrap-shape.ensures) in
-    (is, omega (arith, joined_room method_text ms i (method_at (sheet_of c.args.sheet.now) i) (get_or_default ms i nobody _ h) h))
+    record { own_shape = is; room = omega (arith, joined_room method_text ms i (method_at (sheet_of c.args.sheet.now) i) (get_or_default ms i nobody _ h) h) }
 
 pub loop-method-preserved : goal.loop-method-preserved
 loop-method-preserved c =

@@ -3,7 +3,7 @@ use Rattle.sheet_laws.proofs.TextLaws.{one_text, left_in_range}
 use Rattle.sheet_text.proofs.read_sheet.ReadSheet.read.Goals as goal
 
 pub invariant_of-self : goal.invariant_of-self
-invariant_of-self c = (left_in_range c.args.text.now c.fill.result (sheet_of c.fill.new.sheet) c.fill.ensures, tt)
+invariant_of-self c = record { bounds = left_in_range c.args.text.now c.fill.result (sheet_of c.fill.new.sheet) c.fill.ensures }
 
 pub returns : goal.returns
 returns c = record { answer = c.fill.ensures; one_text = one_text c.args.text.now }
