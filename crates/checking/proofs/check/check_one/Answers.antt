@@ -5,8 +5,8 @@ use Rattle.sheet.specs.declared.location.PlainLocation.{PlainLocation}
 use Rattle.checking.proofs.Sheets.{part_long}
 use Rattle.checking.proofs.check.check_one.Goals as goal
 
-pub check-in-requires : goal.check-in-requires
-check-in-requires c =
+pub check_in-requires : goal.check_in-requires
+check_in-requires c =
     let n = length c.code-count.result.now in
     let e = ap length c.code-count.ensures in
     let d : Instruction PlainLocation = Return in

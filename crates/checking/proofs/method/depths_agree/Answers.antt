@@ -5,10 +5,10 @@ use Rattle.check_rules.specs.Check.{catches}
 use Rattle.checking.proofs.Turns.{begun_part}
 use Rattle.checking.proofs.method.depths_agree.Goals as goal
 
-pub find-depths-requires : goal.find-depths-requires
-find-depths-requires c =
+pub find_depths-requires : goal.find_depths-requires
+find_depths-requires c =
     let n = length c.args.code.now in
     let d : Option ℕ = None in
     let p = begun_part 2048 n d (Some 0) c.requires.few_instructions in
     let l = ap length p ∙ length-set (replicate n d) 0 (Some 0) ∙ length-replicate n d in
-    (sym l, p, subst (λ k. All (λ b. b < k) (catches c.args.handlers.now)) (sym l) c.requires.catches_inside)
+    record { depth_each = sym l; start_depths = p; catches_inside = subst (λ k. All (λ b. b < k) (catches c.args.handlers.now)) (sym l) c.requires.catches_inside }

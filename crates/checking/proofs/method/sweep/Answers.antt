@@ -8,12 +8,12 @@ use Rattle.checking.proofs.method.sweep.Goals as goal
 pub returns-in-Err : goal.returns-in-Err
 returns-in-Err c =
     let limit = c.args.around.own.stack_limit in
-    c.loop-at.invariant ∙ swept_not limit (place_of c.args.around) c.args.code.now c.loop-at.depths c.loop-at.at (LoadConstant (pos 0)) (omega arith) (ap (λ w. visited w c.loop-at.at limit c.loop-at.depths) (sym c.effect-of.ensures) ∙ c.in-Err.ensures)
+    c.loop-at.invariant ∙ swept_not limit (place_of c.args.around) c.args.code.now c.loop-at.depths c.loop-at.at (LoadConstant (pos 0)) (omega arith) (ap (λ w. visited w c.loop-at.at limit c.loop-at.depths) (sym c.effect_of.ensures) ∙ c.in-Err.ensures)
 
 pub loop-at-preserved : goal.loop-at-preserved
 loop-at-preserved c =
     let limit = c.args.around.own.stack_limit in
-    c.loop-at.invariant ∙ swept_next limit (place_of c.args.around) c.args.code.now c.loop-at.depths c.loop-at.at (LoadConstant (pos 0)) (omega arith) c.visit.new.depths (ap (λ w. visited w c.loop-at.at limit c.loop-at.depths) (sym c.effect-of.ensures) ∙ c.in-default.ensures)
+    c.loop-at.invariant ∙ swept_next limit (place_of c.args.around) c.args.code.now c.loop-at.depths c.loop-at.at (LoadConstant (pos 0)) (omega arith) c.visit.new.depths (ap (λ w. visited w c.loop-at.at limit c.loop-at.depths) (sym c.effect_of.ensures) ∙ c.in_default.ensures)
 
 pub returns : goal.returns
 returns c = c.loop-at.invariant ∙ swept_all c.args.around.own.stack_limit (place_of c.args.around) c.args.code.now c.loop-at.depths c.loop-at.at (omega arith)
