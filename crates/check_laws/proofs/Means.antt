@@ -2,7 +2,7 @@
 use Rattle.std.proofs.Common.{◌≡◌, ℕ, zero, suc, ◌+◌, ◌-◌, ◌<◌, ◌≤◌, Bool, true, false, cond, ◌&&◌, eqb, ltb, ◌≢◌, ◌⊎◌, List, [], ◌∷◌, length, get_or, set, replicate, Some, None, Ok, Err, Option, Result, unwrap_or, sym, refl, ap, ◌∙◌, subst, inl, inr, arith}
 use Rattle.std.proofs.lemmas.List.{get_or-set_same, get_or-set_other, get_or_past, length-set, length-replicate}
 use Rattle.std.proofs.lemmas.Bool.{ltb-true, ltb-false, eqb-true, cases_eq, cases_lt, and_cases, false≢true}
-use Rattle.std.specs.List.{AllByRecursion as All}
+use Rattle.std.specs.List.{AllByRecursion}
 use Rattle.check_rules.specs.declared.effect.Effect.{Effect}
 use Rattle.check_rules.specs.Depths.{Depths, agreed, give, then, give_if, give_to, visited, afterwards, swept, caught, begun}
 use Rattle.check_rules.specs.Meaning.{Sound, Typed, Leads, FromBelow, Among}
@@ -173,23 +173,23 @@ caught_one (c ∷ bs) ds b lt h =
       | inr q ↦ get_or-set_other ds c b (Some 1) None q ∙ h
     ])
 
-pub caught_all : (bs : List ℕ) (ds : Depths) → All (λ b. b < length ds) bs → All (λ b. get_or (caught bs ds) b None ≡ Some 1) bs
+pub caught_all : (bs : List ℕ) (ds : Depths) → AllByRecursion (λ b. b < length ds) bs → AllByRecursion (λ b. get_or (caught bs ds) b None ≡ Some 1) bs
 caught_all [] ds w = tt
 caught_all (b ∷ bs) ds w =
     let n = length-set ds b (Some 1) in (
       caught_one bs (set ds b (Some 1)) b (omega (arith, w.0)) (get_or-set_same ds b (Some 1) None w.0),
-      caught_all bs (set ds b (Some 1)) (subst (λ k. All (λ c. c < k) bs) (sym n) w.1),
+      caught_all bs (set ds b (Some 1)) (subst (λ k. AllByRecursion (λ c. c < k) bs) (sym n) w.1),
     )
 
-pub caught_zero : (bs : List ℕ) (ds : Depths) → All (λ b. 0 < b) bs → get_or ds 0 None ≡ Some 0 → get_or (caught bs ds) 0 None ≡ Some 0
+pub caught_zero : (bs : List ℕ) (ds : Depths) → AllByRecursion (λ b. 0 < b) bs → get_or ds 0 None ≡ Some 0 → get_or (caught bs ds) 0 None ≡ Some 0
 caught_zero [] ds w h = h
 caught_zero (b ∷ bs) ds w h = let p = w.0 in let ne : 0 ≢ b = omega arith in caught_zero bs (set ds b (Some 1)) w.1 (get_or-set_other ds b 0 (Some 1) None ne ∙ h)
 
-pub caught_low : (K : ℕ) (bs : List ℕ) (ds : Depths) → All (λ b. b < length ds) bs → All (λ b. 1 ≤ K) bs → Low K ds → Low K (caught bs ds)
+pub caught_low : (K : ℕ) (bs : List ℕ) (ds : Depths) → AllByRecursion (λ b. b < length ds) bs → AllByRecursion (λ b. 1 ≤ K) bs → Low K ds → Low K (caught bs ds)
 caught_low K [] ds w o low = low
 caught_low K (b ∷ bs) ds w o low =
     let n = length-set ds b (Some 1) in
-    caught_low K bs (set ds b (Some 1)) (subst (λ k. All (λ c. c < k) bs) (sym n) w.1) o.1
+    caught_low K bs (set ds b (Some 1)) (subst (λ k. AllByRecursion (λ c. c < k) bs) (sym n) w.1) o.1
     (λ l e h.
     elim (cases_eq l b) [
       | inl q ↦ (let p : 1 ≡ e = some_is (sym (get_or-set_same ds b (Some 1) None w.0) ∙ ap (λ k. get_or (set ds b (Some 1)) k None) (sym q) ∙ h) in let z = o.0 in omega arith)
@@ -211,14 +211,14 @@ none_low K (suc n) (suc l) e h = still n l h
     still (suc n) (suc l) h = still n l h
 
 -- THE MEANING OF A PASS: a method whose sweep passes is typed by the depths that the sweep leaves
-pub pass_means : (K n : ℕ) (rows : List Effect) (bs : List ℕ) (es : Depths) → length rows ≡ suc n → All (λ b. b < suc n) bs → All (λ b. 0 < b) bs → All (λ b. 1 ≤ K) bs → swept rows 0 K (begun bs (suc n)) ≡ Ok es → Typed K rows bs es
+pub pass_means : (K n : ℕ) (rows : List Effect) (bs : List ℕ) (es : Depths) → length rows ≡ suc n → AllByRecursion (λ b. b < suc n) bs → AllByRecursion (λ b. 0 < b) bs → AllByRecursion (λ b. 1 ≤ K) bs → swept rows 0 K (begun bs (suc n)) ≡ Ok es → Typed K rows bs es
 pass_means K n rows bs es ln inside above one e =
     let base = set (replicate (suc n) None) 0 (Some 0) in
     let no_depth : Option ℕ = None in
     let lr = length-replicate (suc n) no_depth in
     let lb = length-set (replicate (suc n) no_depth) 0 (Some 0) in
     let lc : length (begun bs (suc n)) ≡ suc n = caught_length bs base ∙ (lb ∙ lr) in
-    let within = subst (λ k. All (λ b. b < k) bs) (sym (lb ∙ lr)) inside in
+    let within = subst (λ k. AllByRecursion (λ b. b < k) bs) (sym (lb ∙ lr)) inside in
     let w = sweep_means K rows 0 (begun bs (suc n)) es (omega arith) (caught_low K bs base within one (none_low K (suc n))) e in
     record {
       begins = w.0.keeps 0 0 (caught_zero bs base above refl);
@@ -226,7 +226,7 @@ pass_means K n rows bs es ln inside above one e =
       caught = kept w.0 bs (caught_all bs base within);
     }
   where
-    kept : {ds : Depths} → Step K ds es → (cs : List ℕ) → All (λ b. get_or ds b None ≡ Some 1) cs → All (λ b. get_or es b None ≡ Some 1) cs
+    kept : {ds : Depths} → Step K ds es → (cs : List ℕ) → AllByRecursion (λ b. get_or ds b None ≡ Some 1) cs → AllByRecursion (λ b. get_or es b None ≡ Some 1) cs
     kept s [] w = tt
     kept s (c ∷ cs) w = (s.keeps c 1 w.0, kept s cs w.1)
 

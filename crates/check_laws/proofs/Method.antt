@@ -1,6 +1,6 @@
 -- A method is checked exactly when it cannot go wrong. Assumes nothing.
 use Rattle.std.proofs.Common.{◌≡◌, ℕ, zero, suc, ◌+◌, ◌-◌, ◌<◌, ◌≤◌, Bool, true, false, cond, ◌&&◌, ltb, leb, ◌⊎◌, List, [], ◌∷◌, map, length, get_or, set, replicate, Some, None, Ok, Err, Option, Result, unwrap_or, sym, refl, ap, ◌∙◌, subst, inl, inr, ⊎_elim, arith}
-use Rattle.std.specs.List.{AllByRecursion as All}
+use Rattle.std.specs.List.{AllByRecursion}
 use Rattle.std.proofs.lemmas.List.{length-map, length-set, length-replicate, get_or_past, get_or-set_other, get_or-set_same}
 use Rattle.std.proofs.lemmas.Bool.{and_parts, ltb-true, ltb-false, leb-true, le-ltb, cond-true, cond-false, cases_Bool, cases_lt, cases_eq}
 use Rattle.sheet.specs.Maps.{and_then, raised}
@@ -29,7 +29,7 @@ use Rattle.check_laws.proofs.Means.{Low, Known, caught_all, caught_low, caught_l
 
 -- THE HANDLERS
 
-pub all_suit : (limit n at : ℕ) (xs : List (Handler PlainLocation)) → handled_from limit n at xs ≡ Ok tt → All (λ x. handles limit n x ≡ true) xs
+pub all_suit : (limit n at : ℕ) (xs : List (Handler PlainLocation)) → handled_from limit n at xs ≡ Ok tt → AllByRecursion (λ x. handles limit n x ≡ true) xs
 all_suit limit n at [] e = tt
 all_suit limit n at (x ∷ xs) e =
     ⊎_elim
@@ -37,7 +37,7 @@ all_suit limit n at (x ∷ xs) e =
     (λ b. absurd (let s = sym (cond-false (handles limit n x) (handled_from limit n (suc at) xs) (Err at) b) ∙ e in let z : ◌≡◌ {A = ℕ} 0 1 = cc in omega arith))
     (cases_Bool (handles limit n x))
 
-pub suit_all : (limit n at : ℕ) (xs : List (Handler PlainLocation)) → All (λ x. handles limit n x ≡ true) xs → handled_from limit n at xs ≡ Ok tt
+pub suit_all : (limit n at : ℕ) (xs : List (Handler PlainLocation)) → AllByRecursion (λ x. handles limit n x ≡ true) xs → handled_from limit n at xs ≡ Ok tt
 suit_all limit n at [] w = refl
 suit_all limit n at (x ∷ xs) w = cond-true (handles limit n x) _ _ w.0 ∙ suit_all limit n (suc at) xs w.1
 
@@ -53,15 +53,15 @@ catch_facts limit n x e =
     let g = leb-true _ _ h.1 in
     (omega arith, ltb-true 0 _ c.0, ltb-true 0 limit d.1)
 
-pub catches_within : (limit n : ℕ) (xs : List (Handler PlainLocation)) → All (λ x. handles limit n x ≡ true) xs → All (λ b. b < n) (catches xs)
+pub catches_within : (limit n : ℕ) (xs : List (Handler PlainLocation)) → AllByRecursion (λ x. handles limit n x ≡ true) xs → AllByRecursion (λ b. b < n) (catches xs)
 catches_within limit n [] w = tt
 catches_within limit n (x ∷ xs) w = ((catch_facts limit n x w.0).0, catches_within limit n xs w.1)
 
-catches_above : (limit n : ℕ) (xs : List (Handler PlainLocation)) → All (λ x. handles limit n x ≡ true) xs → All (λ b. 0 < b) (catches xs)
+catches_above : (limit n : ℕ) (xs : List (Handler PlainLocation)) → AllByRecursion (λ x. handles limit n x ≡ true) xs → AllByRecursion (λ b. 0 < b) (catches xs)
 catches_above limit n [] w = tt
 catches_above limit n (x ∷ xs) w = ((catch_facts limit n x w.0).1, catches_above limit n xs w.1)
 
-catches_limit : (limit n : ℕ) (xs : List (Handler PlainLocation)) → All (λ x. handles limit n x ≡ true) xs → All (λ b. 1 ≤ limit) (catches xs)
+catches_limit : (limit n : ℕ) (xs : List (Handler PlainLocation)) → AllByRecursion (λ x. handles limit n x ≡ true) xs → AllByRecursion (λ b. 1 ≤ limit) (catches xs)
 catches_limit limit n [] w = tt
 catches_limit limit n (x ∷ xs) w = ((catch_facts limit n x w.0).2, catches_limit limit n xs w.1)
 
@@ -110,31 +110,31 @@ begun_length bs n =
     caught_length bs (set (replicate n nothing) 0 (Some 0)) ∙ length-set (replicate n nothing) 0 (Some 0) ∙ length-replicate n nothing
 
 -- a catch begin has depth 1 at the start
-begun_catch : (bs : List ℕ) (n l : ℕ) → All (λ b. b < n) bs → Among l bs → get_or (begun bs n) l None ≡ Some 1
+begun_catch : (bs : List ℕ) (n l : ℕ) → AllByRecursion (λ b. b < n) bs → Among l bs → get_or (begun bs n) l None ≡ Some 1
 begun_catch bs n l w m =
     let nothing : Option ℕ = None in
     let k = length-set (replicate n nothing) 0 (Some 0) ∙ length-replicate n nothing in
-    pick bs (caught_all bs (set (replicate n nothing) 0 (Some 0)) (subst (λ j. All (λ b. b < j) bs) (sym k) w)) m
+    pick bs (caught_all bs (set (replicate n nothing) 0 (Some 0)) (subst (λ j. AllByRecursion (λ b. b < j) bs) (sym k) w)) m
   where
-    pick : (cs : List ℕ) → All (λ b. get_or (begun bs n) b None ≡ Some 1) cs → Among l cs → get_or (begun bs n) l None ≡ Some 1
+    pick : (cs : List ℕ) → AllByRecursion (λ b. get_or (begun bs n) b None ≡ Some 1) cs → Among l cs → get_or (begun bs n) l None ≡ Some 1
     pick [] v m = absurd m
     pick (c ∷ cs) v (inl q) = ap (λ j. get_or (begun bs n) j None) q ∙ v.0
     pick (c ∷ cs) v (inr m) = pick cs v.1 m
 
 -- FROM A SWEEP THAT PASSES TO ITS MEANING
 
-module _ (limit : ℕ) (fs : List Effect) (bs : List ℕ) (within : All (λ b. b < length fs) bs) (above : All (λ b. 0 < b) bs) (one : All (λ b. 1 ≤ limit) bs) (some : 0 < length fs) where
+module _ (limit : ℕ) (fs : List Effect) (bs : List ℕ) (within : AllByRecursion (λ b. b < length fs) bs) (above : AllByRecursion (λ b. 0 < b) bs) (one : AllByRecursion (λ b. 1 ≤ limit) bs) (some : 0 < length fs) where
   start_low : Low limit (begun bs (length fs))
   start_low =
       let nothing : Option ℕ = None in
       let k = length-set (replicate (length fs) nothing) 0 (Some 0) ∙ length-replicate (length fs) nothing in
-      caught_low limit bs (set (replicate (length fs) nothing) 0 (Some 0)) (subst (λ j. All (λ b. b < j) bs) (sym k) within) one (none_low limit (length fs))
+      caught_low limit bs (set (replicate (length fs) nothing) 0 (Some 0)) (subst (λ j. AllByRecursion (λ b. b < j) bs) (sym k) within) one (none_low limit (length fs))
 
   module _ (ds : Depths) (e : swept fs 0 limit (begun bs (length fs)) ≡ Ok ds) where
     swept_typed : Typed limit fs bs ds
     swept_typed =
         let n : length fs ≡ suc (length fs - 1) = omega arith in
-        pass_means limit (length fs - 1) fs bs ds n (subst (λ k. All (λ b. b < k) bs) n within) above one (ap (λ k. swept fs 0 limit (begun bs k)) (sym n) ∙ e)
+        pass_means limit (length fs - 1) fs bs ds n (subst (λ k. AllByRecursion (λ b. b < k) bs) n within) above one (ap (λ k. swept fs 0 limit (begun bs k)) (sym n) ∙ e)
 
     swept_length : length ds ≡ length fs
     swept_length =
@@ -150,7 +150,7 @@ module _ (limit : ℕ) (fs : List Effect) (bs : List ℕ) (within : All (λ b. b
 
 -- AND BACK
 
-module _ (limit : ℕ) (fs : List Effect) (bs : List ℕ) (within : All (λ b. b < length fs) bs) (ds : Depths) (long : length ds ≡ length fs) (typed : Typed limit fs bs ds) (below : (l d : ℕ) → get_or ds l None ≡ Some d → (d ≡ 0) ⊎ (Among l bs ⊎ FromBelow fs 0 l)) where
+module _ (limit : ℕ) (fs : List Effect) (bs : List ℕ) (within : AllByRecursion (λ b. b < length fs) bs) (ds : Depths) (long : length ds ≡ length fs) (typed : Typed limit fs bs ds) (below : (l d : ℕ) → get_or ds l None ≡ Some d → (d ≡ 0) ⊎ (Among l bs ⊎ FromBelow fs 0 l)) where
   -- the depth of a location
   depth : ℕ → ℕ
   depth l = unwrap_or (get_or ds l None) 0
@@ -182,7 +182,7 @@ module _ (limit : ℕ) (fs : List Effect) (bs : List ℕ) (within : All (λ b. b
         good rs (at + 1) (omega arith) (λ k x h q. (let s : at + suc k ≡ at + 1 + k = omega arith in subst (λ j. Sits depth (length fs) limit x j) s (each (suc k) x (omega arith) q))),
       )
 
-  caught_depth : (cs : List ℕ) → All (λ b. get_or ds b None ≡ Some 1) cs → (l : ℕ) → Among l cs → depth l ≡ 1
+  caught_depth : (cs : List ℕ) → AllByRecursion (λ b. get_or ds b None ≡ Some 1) cs → (l : ℕ) → Among l cs → depth l ≡ 1
   caught_depth [] w l m = absurd m
   caught_depth (c ∷ cs) w l (inl q) = ap depth q ∙ depth_is c 1 w.0
   caught_depth (c ∷ cs) w l (inr m) = caught_depth cs w.1 l m
@@ -226,14 +226,14 @@ none_long (x ∷ xs) e = omega arith
 
 module _ (library : List Signature) (shapes : List Shape) where
   -- a method whose parts passed
-  from_parts : (shape : Shape) (is : List (Instruction PlainLocation)) (xs : List (Handler PlainLocation)) (ds : Depths) → 0 < length is → shape.arguments + shape.locals + shape.stack_limit ≤ 256 → map (decoded (place_in library shapes shape (length is))) (map (encoded plain) is) ≡ map Some is → All (λ x. handles shape.stack_limit (length is) x ≡ true) xs → depths_of (place_in library shapes shape (length is)) is xs ≡ Ok ds → Passed library shapes (record { shape = shape; code = is; handlers = xs })
+  from_parts : (shape : Shape) (is : List (Instruction PlainLocation)) (xs : List (Handler PlainLocation)) (ds : Depths) → 0 < length is → shape.arguments + shape.locals + shape.stack_limit ≤ 256 → map (decoded (place_in library shapes shape (length is))) (map (encoded plain) is) ≡ map Some is → AllByRecursion (λ x. handles shape.stack_limit (length is) x ≡ true) xs → depths_of (place_in library shapes shape (length is)) is xs ≡ Ok ds → Passed library shapes (record { shape = shape; code = is; handlers = xs })
   from_parts shape is xs ds some cells operands suits e =
       let p = place_in library shapes shape (length is) in
       let limit = shape.stack_limit in
       let fs = effects p is in
       let n : length fs ≡ length is = length-map is _ in
       let bs = catches xs in
-      let within = subst (λ k. All (λ b. b < k) bs) (sym n) (catches_within limit (length is) xs suits) in
+      let within = subst (λ k. AllByRecursion (λ b. b < k) bs) (sym n) (catches_within limit (length is) xs suits) in
       let above = catches_above limit (length is) xs suits in
       let one = catches_limit limit (length is) xs suits in
       let e' : swept fs 0 limit (begun bs (length fs)) ≡ Ok ds = ap (λ k. swept fs 0 limit (begun bs k)) n ∙ e in
@@ -265,7 +265,7 @@ module _ (library : List Signature) (shapes : List Shape) where
       let same : c ≡ m = cc in
       let back = all_back p 0 r.code is (raised_ok Operand (decoded_from p 0 r.code) is three.1) in
       let n : length r.code ≡ length is = ap length (sym back.0) ∙ length-map is (encoded plain) in
-      let suits = subst (λ k. All (λ x. handles limit k x ≡ true) xs) n (all_suit limit (length r.code) 0 xs (raised_ok AtHandler (handled_from limit (length r.code) 0 xs) four.0 four.1)) in
+      let suits = subst (λ k. AllByRecursion (λ x. handles limit k x ≡ true) xs) n (all_suit limit (length r.code) 0 xs (raised_ok AtHandler (handled_from limit (length r.code) 0 xs) four.0 four.1)) in
       let operands : map (decoded (place_in library shapes shape (length is))) (map (encoded plain) is) ≡ map Some is = ap (λ k. map (decoded (place_in library shapes shape k)) (map (encoded plain) is)) (sym n) ∙ ap (map (decoded p)) back.0 ∙ back.1 in
       let depths : depths_of (place_in library shapes shape (length is)) is xs ≡ Ok ds = ap (λ k. depths_of (place_in library shapes shape k) is xs) (sym n) ∙ raised_ok Depth (depths_of p is xs) ds five.1 in
       let some : 0 < length is = omega (arith, none_long r.code one.0) in
@@ -287,7 +287,7 @@ module _ (library : List Signature) (shapes : List Shape) where
       let fs = effects q is in
       let k : length fs ≡ length is = length-map is _ in
       let bs = catches xs in
-      let within = subst (λ j. All (λ b. b < j) bs) (sym k) (catches_within limit (length is) xs w.handlers) in
+      let within = subst (λ j. AllByRecursion (λ b. b < j) bs) (sym k) (catches_within limit (length is) xs w.handlers) in
       let sweep = swept_passes limit fs bs within w.depths (w.long ∙ sym k) w.typed w.below in
       let ds = sweep.0 in
       let depths : depths_of p is xs ≡ Ok ds = ap (λ j. swept fs 0 limit (begun bs j)) (sym k) ∙ sweep.1 in

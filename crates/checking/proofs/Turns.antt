@@ -11,7 +11,7 @@ use Rattle.sheet.specs.declared.records.ReadInstruction.{ReadInstruction}
 use Rattle.check_rules.specs.Check.{decoded_then, decoded_from, handled_from, catches, effects}
 use Rattle.check_rules.specs.Coding.{decoded}
 use Rattle.check_rules.specs.Depths.{Depths, visited, afterwards, swept, caught}
-use Rattle.std.specs.List.{AllByRecursion as All}
+use Rattle.std.specs.List.{AllByRecursion}
 use Rattle.check_rules.specs.Effects.{Place, effect_of}
 use Rattle.check_rules.specs.Places.{plain}
 use Rattle.check_rules.specs.Ranges.{handles}
@@ -88,8 +88,8 @@ module _ (xs : List (Handler PlainLocation)) (i : ℕ) (d : Handler PlainLocatio
   pub catch_next : (ds : Depths) → caught (catches (drop i xs)) ds ≡ caught (catches (drop (i + 1) xs)) (set ds (get_or xs i d).catch_begin.number (Some 1))
   catch_next ds = at_drop_more (λ ys. caught (catches ys) ds) xs i d inside
 
-  pub catch_inside : (n : ℕ) → All (λ b. b < n) (catches (drop i xs)) → ((get_or xs i d).catch_begin.number < n) × All (λ b. b < n) (catches (drop (i + 1) xs))
-  catch_inside n w = let e = at_drop_more (λ ys. catches ys) xs i d inside in let v = subst (λ bs. All (λ b. b < n) bs) e w in (v.0, v.1)
+  pub catch_inside : (n : ℕ) → AllByRecursion (λ b. b < n) (catches (drop i xs)) → ((get_or xs i d).catch_begin.number < n) × AllByRecursion (λ b. b < n) (catches (drop (i + 1) xs))
+  catch_inside n w = let e = at_drop_more (λ ys. catches ys) xs i d inside in let v = subst (λ bs. AllByRecursion (λ b. b < n) bs) e w in (v.0, v.1)
 
 pub catch_all : (xs : List (Handler PlainLocation)) (i : ℕ) (ds : Depths) → length xs ≤ i → caught (catches (drop i xs)) ds ≡ ds
 catch_all xs i ds h = at_drop_all (λ ys. caught (catches ys) ds) xs i h

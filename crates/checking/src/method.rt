@@ -1,6 +1,6 @@
 // The check of one method.
 ghost use Rattle.std.specs.Prelude.{◌≡◌, ℕ, ◌+◌, ◌<◌, ◌≤◌, true, map, length, replicate, is_ok, Some, None, Ok, Err, MatchResult, slice_set};
-ghost use Rattle.std.specs.List.{AllByRecursion as All};
+ghost use Rattle.std.specs.List.{AllByRecursion};
 ghost use Rattle.check_rules.specs.Check.{decoded_from, handled_from, catches, effects, depths_of, method_checked};
 ghost use Rattle.checking.specs.Methods.{method_of};
 ghost use Rattle.check_rules.specs.Depths.{give, visited, swept, caught};
@@ -133,7 +133,7 @@ fn sweep(
 
 // Gives each catch begin depth 1.
 fn mark_catches(handlers: &[Handler<PlainLocation>], depths: &mut [Option<u16>])
-    requires { All (λ b. b < length depths.old) (catches handlers.now) }
+    requires { AllByRecursion (λ b. b < length depths.old) (catches handlers.now) }
     ensures { depths.new ≡ caught (catches handlers.now) depths.old }
 {
     for handler in handlers {
@@ -151,7 +151,7 @@ fn find_depths(
 ) -> Result<(), usize>
     requires depth_each { length code.now ≡ length depths.old }
     requires start_depths { depths.old ≡ slice_set (replicate (length code.now) None) 0 (Some 0) }
-    requires catches_inside { All (λ b. b < length depths.old) (catches handlers.now) }
+    requires catches_inside { AllByRecursion (λ b. b < length depths.old) (catches handlers.now) }
     ensures { MatchResult result (λ _. depths_of (place_of around.entry) code.now handlers.now ≡ Ok depths.new) (λ at. depths_of (place_of around.entry) code.now handlers.now ≡ Err at) }
 {
     mark_catches(handlers, depths);
@@ -165,7 +165,7 @@ fn depths_agree(
     around: Around<'_>,
 ) -> Result<(), usize>
     requires few_instructions { length code.now ≤ 2048 }
-    requires catches_inside { All (λ b. b < length code.now) (catches handlers.now) }
+    requires catches_inside { AllByRecursion (λ b. b < length code.now) (catches handlers.now) }
     ensures { MatchResult result (λ _. is_ok (depths_of (place_of around.entry) code.now handlers.now) ≡ true) (λ at. depths_of (place_of around.entry) code.now handlers.now ≡ Err at) }
 {
     let mut depths = [None; 2048];
