@@ -1,13 +1,14 @@
 use crate::texts::largest;
 use sheet_text::read_sheet::ReadSheet;
 use std::alloc::Global;
-use std::process::Abort;
 use std::test::Fail;
 
 // The largest sheet, read from its text.
-fn largest_sheet(rt: &impl Abort, heap: Global, text: &[u8]) -> Result<ReadSheet, Fail> {
+fn largest_sheet(heap: Global, text: &[u8]) -> Result<ReadSheet, Fail> {
     let mut sheet = ReadSheet::new(heap)?;
-    assert!(rt; sheet.read(text).is_ok());
+    if sheet.read(text).is_err() {
+        return Err(Fail::new("the text does not read"));
+    }
     Ok(sheet)
 }
 
@@ -15,7 +16,7 @@ fn largest_sheet(rt: &impl Abort, heap: Global, text: &[u8]) -> Result<ReadSheet
 fn the_largest_sheet_writes(rt: HostRuntime) -> Result<(), Fail> {
     let heap = rt.alloc();
     let text = largest(heap)?;
-    let sheet = largest_sheet(&rt, heap, text.as_slice())?;
+    let sheet = largest_sheet(heap, text.as_slice())?;
     assert_eq!(rt; sheet.text_length(), 50208);
     let mut buffer = vec![in heap; b'?'; 50208]?;
     assert!(rt; matches!(sheet.write(buffer.as_mut_slice()), Ok(50208)));
@@ -27,7 +28,7 @@ fn the_largest_sheet_writes(rt: HostRuntime) -> Result<(), Fail> {
 fn a_short_buffer_stays(rt: HostRuntime) -> Result<(), Fail> {
     let heap = rt.alloc();
     let text = largest(heap)?;
-    let sheet = largest_sheet(&rt, heap, text.as_slice())?;
+    let sheet = largest_sheet(heap, text.as_slice())?;
     let mut buffer = vec![in heap; b'?'; 50207]?;
     match sheet.write(buffer.as_mut_slice()) {
         Ok(_) => return Err(Fail::new("the sheet is written")),
@@ -41,7 +42,7 @@ fn a_short_buffer_stays(rt: HostRuntime) -> Result<(), Fail> {
 fn a_long_buffer_keeps_its_end(rt: HostRuntime) -> Result<(), Fail> {
     let heap = rt.alloc();
     let mut text = largest(heap)?;
-    let sheet = largest_sheet(&rt, heap, text.as_slice())?;
+    let sheet = largest_sheet(heap, text.as_slice())?;
     let mut buffer = vec![in heap; b'?'; 50210]?;
     assert!(rt; matches!(sheet.write(buffer.as_mut_slice()), Ok(50208)));
     text.extend_from_slice(b"??")?;
