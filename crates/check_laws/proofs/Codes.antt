@@ -1,5 +1,5 @@
 -- Decoding and encoding undo each other. Assumes nothing.
-use Rattle.std.proofs.Common.{◌≡◌, ℕ, suc, ◌<◌, true, false, cond, eqb, ltb, List, [], ◌∷◌, map, length, get_or, ℤ, pos, negsuc, Some, None, Ok, Err, Option, Result, sym, refl, ap, ◌∙◌, ⊎_elim, arith}
+use Rattle.std.proofs.Common.{◌≡◌, ℕ, suc, eqb, ltb, List, [], ◌∷◌, map, get_or, ℤ, pos, negsuc, Some, None, Ok, Err, Option, Result, sym, refl, ap, ◌∙◌, ⊎_elim, arith}
 use Rattle.std.specs.Option.{option_map}
 use Rattle.std.proofs.lemmas.Bool.{cond-true, cond-false, cases_Bool, eqb-true}
 use Rattle.sheet.specs.Instructions.{op_of, operand_of, with_nothing, with_number, with_index, with_location, instruction_of}

@@ -1,10 +1,10 @@
 -- Depths that type a method and come from below are found. Assumes nothing.
-use Rattle.std.proofs.Common.{◌≡◌, ℕ, zero, suc, ◌+◌, ◌-◌, ◌<◌, ◌≤◌, Bool, true, false, cond, ◌&&◌, eqb, ltb, ◌≢◌, ◌⊎◌, List, [], ◌∷◌, length, get_or, set, Some, None, Ok, Err, Option, Result, unwrap_or, sym, refl, ap, ◌∙◌, subst, inl, inr, arith}
+use Rattle.std.proofs.Common.{◌≡◌, ℕ, ◌+◌, ◌-◌, ◌<◌, ◌≤◌, Bool, true, false, cond, ◌&&◌, ltb, ◌⊎◌, List, [], ◌∷◌, length, get_or, set, Some, None, Ok, Option, unwrap_or, sym, refl, ap, ◌∙◌, subst, inl, inr, arith}
 use Rattle.std.proofs.lemmas.List.{get_or-set_same, get_or-set_other, length-set}
-use Rattle.std.proofs.lemmas.Bool.{lt-ltb, le-ltb, eq-eqb, cases_eq, and_right, and_left, false≢true}
+use Rattle.std.proofs.lemmas.Bool.{lt-ltb, le-ltb, eq-eqb, cases_eq, false≢true}
 use Rattle.check_rules.specs.declared.effect.Effect.{Effect}
 use Rattle.check_rules.specs.Depths.{Depths, agreed, give, then, give_if, give_to, visited, afterwards, swept}
-use Rattle.check_rules.specs.Meaning.{Leads, FromBelow}
+use Rattle.check_rules.specs.Meaning.{FromBelow}
 
 not_both : {d : ℕ} {X : Type 0} → ◌≡◌ {A = Option ℕ} None (Some d) → X
 not_both e = absurd (let z : ◌≡◌ {A = ℕ} 0 1 = cc in omega arith)

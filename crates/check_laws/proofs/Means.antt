@@ -1,11 +1,11 @@
 -- What it means that the depths of a method agree, and where each depth comes from. Assumes nothing.
 use Rattle.std.proofs.Common.{◌≡◌, ℕ, zero, suc, ◌+◌, ◌-◌, ◌<◌, ◌≤◌, Bool, true, false, cond, ◌&&◌, eqb, ltb, ◌≢◌, ◌⊎◌, List, [], ◌∷◌, length, get_or, set, replicate, Some, None, Ok, Err, Option, Result, unwrap_or, sym, refl, ap, ◌∙◌, subst, inl, inr, arith}
-use Rattle.std.proofs.lemmas.List.{get_or-set_same, get_or-set_other, get_or_past, length-set, length-replicate}
+use Rattle.std.proofs.lemmas.List.{get_or-set_same, get_or-set_other, length-set, length-replicate}
 use Rattle.std.proofs.lemmas.Bool.{ltb-true, ltb-false, eqb-true, cases_eq, cases_lt, and_cases, false≢true}
 use Rattle.std.specs.List.{AllByRecursion}
 use Rattle.check_rules.specs.declared.effect.Effect.{Effect}
 use Rattle.check_rules.specs.Depths.{Depths, agreed, give, then, give_if, give_to, visited, afterwards, swept, caught, begun}
-use Rattle.check_rules.specs.Meaning.{Sound, Typed, Leads, FromBelow, Among}
+use Rattle.check_rules.specs.Meaning.{Sound, Typed, Leads, FromBelow}
 
 -- what has a depth keeps it
 abbrev Keeps : Depths → Depths → Type 0

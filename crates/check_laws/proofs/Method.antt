@@ -1,5 +1,5 @@
 -- A method is checked exactly when it cannot go wrong. Assumes nothing.
-use Rattle.std.proofs.Common.{◌≡◌, ℕ, zero, suc, ◌+◌, ◌-◌, ◌<◌, ◌≤◌, Bool, true, false, cond, ◌&&◌, ltb, leb, ◌⊎◌, List, [], ◌∷◌, map, length, get_or, set, replicate, Some, None, Ok, Err, Option, Result, unwrap_or, sym, refl, ap, ◌∙◌, subst, inl, inr, ⊎_elim, arith}
+use Rattle.std.proofs.Common.{◌≡◌, ℕ, zero, suc, ◌+◌, ◌-◌, ◌<◌, ◌≤◌, Bool, true, false, cond, ltb, leb, ◌⊎◌, List, [], ◌∷◌, map, length, get_or, set, replicate, Some, None, Ok, Err, Option, Result, unwrap_or, sym, refl, ap, ◌∙◌, subst, inl, inr, ⊎_elim, arith}
 use Rattle.std.specs.List.{AllByRecursion}
 use Rattle.std.proofs.lemmas.List.{length-map, length-set, length-replicate, get_or_past, get_or-set_other, get_or-set_same}
 use Rattle.std.proofs.lemmas.Bool.{and_parts, ltb-true, ltb-false, leb-true, le-ltb, cond-true, cond-false, cases_Bool, cases_lt, cases_eq}
@@ -10,22 +10,20 @@ use Rattle.sheet.specs.declared.location.PlainLocation.{PlainLocation}
 use Rattle.sheet.specs.declared.records.Handler.{Handler}
 use Rattle.sheet.specs.declared.records.Shape.{Shape}
 use Rattle.sheet.specs.declared.records.Signature.{Signature}
-use Rattle.sheet_laws.proofs.Adds.{none_there, some_there}
+use Rattle.sheet_laws.proofs.Adds.{some_there}
 use Rattle.sheet_laws.proofs.Numerals.{and_then_ok, raised_ok}
 use Rattle.check_rules.specs.Check.{ReadMethod, CheckedMethod, decoded_from, handled_from, catches, effects, depths_of, place_in, method_checked, method_encoded}
-use Rattle.check_rules.specs.CheckLaws.{place_of_method, Passed, MethodLaw, CheckLaw}
+use Rattle.check_rules.specs.CheckLaws.{Passed, CheckLaw}
 use Rattle.check_rules.specs.Coding.{decoded, encoded}
 use Rattle.check_rules.specs.Depths.{Depths, swept, caught, begun}
-use Rattle.check_rules.specs.Effects.{Place}
-use Rattle.check_rules.specs.Meaning.{Sound, Typed, Leads, FromBelow, Among}
+use Rattle.check_rules.specs.Meaning.{Typed, FromBelow, Among}
 use Rattle.check_rules.specs.Places.{plain}
 use Rattle.check_rules.specs.Ranges.{holds, apart, handles}
 use Rattle.check_rules.specs.declared.effect.Effect.{Effect}
-use Rattle.check_rules.specs.declared.faults.MethodFault.{MethodFault}
 use Rattle.check_rules.specs.declared.faults.MethodFault.TheVariants.{NoInstruction, TooManyCells, Operand, Handler as AtHandler, Depth}
 use Rattle.check_laws.proofs.Codes.{all_back, all_decoded}
 use Rattle.check_laws.proofs.Complete.{Sits, Agrees, Ready, Good, sweep_passes}
-use Rattle.check_laws.proofs.Means.{Low, Known, caught_all, caught_low, caught_length, none_low, sweep_means, pass_means, sweep_origin}
+use Rattle.check_laws.proofs.Means.{Low, caught_all, caught_low, caught_length, none_low, sweep_means, pass_means, sweep_origin}
 
 -- THE HANDLERS
 

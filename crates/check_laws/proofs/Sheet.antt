@@ -1,10 +1,9 @@
 -- The law of the check over a whole sheet. Assumes nothing.
-use Rattle.std.proofs.Common.{◌≡◌, ℕ, suc, ◌<◌, true, List, [], ◌∷◌, map, length, is_ok, Ok, Err, sym, refl, ap, ◌∙◌, subst, arith}
+use Rattle.std.proofs.Common.{◌≡◌, ℕ, suc, ◌<◌, true, List, [], ◌∷◌, map, length, is_ok, Ok, sym, refl, ap, ◌∙◌, subst, arith}
 use Rattle.std.specs.List.{AllByRecursion}
 use Rattle.std.proofs.lemmas.List.{length-map}
 use Rattle.sheet.specs.Bounds.{every}
 use Rattle.sheet.specs.Maps.{and_then, raised}
-use Rattle.sheet.specs.Reading.{TextSheet}
 use Rattle.sheet.specs.declared.records.Shape.{Shape}
 use Rattle.sheet.specs.declared.records.Signature.{Signature}
 use Rattle.sheet_laws.proofs.Numerals.{and_then_ok, raised_ok}

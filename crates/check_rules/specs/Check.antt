@@ -1,5 +1,5 @@
 -- The check of a sheet: the checked sheet, or the lowest method that is refused with the first of its faults. Assumes nothing.
-use Rattle.std.specs.Prelude.{ℕ, suc, ◌+◌, Bool, cond, List, [], ◌∷◌, map, length, Some, None, Ok, Err, Option, Result, nat_lt}
+use Rattle.std.specs.Prelude.{ℕ, suc, ◌+◌, cond, List, [], ◌∷◌, map, length, Some, None, Ok, Err, Option, Result, nat_lt}
 use Rattle.sheet.specs.Maps.{and_then, raised}
 use Rattle.sheet.specs.Reading.{TextSheet, none}
 use Rattle.sheet.specs.View.{Method, Sheet}

@@ -2,7 +2,6 @@
 use Rattle.std.specs.Prelude.{◌≡◌, ℕ, ◌+◌, ◌<◌, ◌≤◌, true, ◌⊎◌, List, map, length, Some, None, Ok, slice_index_or}
 use Rattle.std.specs.List.{AllByRecursion}
 use Rattle.sheet.specs.Reading.{TextSheet}
-use Rattle.sheet.specs.declared.location.PlainLocation.{PlainLocation}
 use Rattle.sheet.specs.declared.records.Shape.{Shape}
 use Rattle.sheet.specs.declared.records.Signature.{Signature}
 use Rattle.check_rules.specs.Check.{ReadMethod, CheckedMethod, CheckedForm, catches, effects, place_in, method_checked, method_encoded, shapes_of, checked, sheet_encoded}

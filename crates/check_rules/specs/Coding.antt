@@ -1,5 +1,5 @@
 -- An instruction decoded from an op and a number, and encoded again. Assumes nothing.
-use Rattle.std.specs.Prelude.{ℕ, cond, ◌&&◌, List, length, ℤ, pos, negsuc, Some, None, Option, ◌==◌, nat_lt, slice_index_or}
+use Rattle.std.specs.Prelude.{ℕ, cond, List, length, ℤ, pos, negsuc, Some, None, Option, ◌==◌, nat_lt, slice_index_or}
 use Rattle.std.specs.Option.{option_map}
 use Rattle.sheet.specs.Instructions.{op_of, operand_of, instruction_of}
 use Rattle.sheet.specs.Ops.{op_row}

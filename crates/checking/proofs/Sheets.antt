@@ -1,18 +1,15 @@
 -- The check of a whole sheet, method by method. Assumes nothing.
-use Rattle.std.proofs.Common.{◌≡◌, ℕ, zero, suc, ◌+◌, ◌-◌, ◌<◌, ◌≤◌, true, false, List, [], ◌∷◌, ◌++◌, map, length, get_or, take, drop, set, replicate, is_ok, Some, None, Ok, Err, Option, Result, sym, refl, ap, ◌∙◌, subst, add-one, arith, MatchResult}
+use Rattle.std.proofs.Common.{◌≡◌, ℕ, suc, ◌+◌, ◌-◌, ◌<◌, ◌≤◌, List, [], ◌∷◌, ◌++◌, length, get_or, take, drop, set, replicate, Some, Ok, Err, Result, sym, refl, ap, ◌∙◌, subst, add-one, arith, MatchResult}
 use Rattle.std.specs.List.{slice_get}
 use Rattle.std.specs.Option.{option_map}
-use Rattle.std.proofs.lemmas.List.{append_assoc, append-nil, at_drop_more, at_drop_all, get_or_default, get_or-map, length-map, length_push, length-replicate, length-take-le, take_all, take-append-drop, take_more, take_more_set}
+use Rattle.std.proofs.lemmas.List.{append_assoc, append-nil, at_drop_more, at_drop_all, get_or-map, length-map, length_push, length-replicate, length-take-le, take-append-drop, take_more, take_more_set}
 use Rattle.std.proofs.lemmas.Option.{slice_get-get_or}
 use Rattle.sheet.specs.Maps.{and_then, raised}
 use Rattle.sheet.specs.Reading.{TextSheet}
 use Rattle.sheet.specs.View.{Method, empty_sheet, nobody, no_shape, instructions_in, handlers_in}
-use Rattle.sheet.specs.declared.location.PlainLocation.{PlainLocation}
-use Rattle.sheet.specs.declared.records.Handler.{Handler}
-use Rattle.sheet.specs.declared.records.ReadInstruction.{ReadInstruction}
 use Rattle.sheet.specs.declared.records.Shape.{Shape}
 use Rattle.sheet.specs.declared.records.Signature.{Signature}
-use Rattle.check_rules.specs.Check.{ReadMethod, CheckedMethod, CheckedForm, checked, method_checked, methods_checked, method_encoded, shapes_of}
+use Rattle.check_rules.specs.Check.{ReadMethod, CheckedMethod, CheckedForm, checked, method_checked, methods_checked, shapes_of}
 use Rattle.check_rules.specs.Coding.{encoded}
 use Rattle.check_rules.specs.Places.{plain}
 use Rattle.check_laws.proofs.Method.{method_means}

@@ -1,5 +1,5 @@
 -- Bindings in the order of their keys: places, entering and striking.
-use Rattle.std.proofs.Common.{◌≡◌, ℕ, zero, suc, ◌<◌, ◌≤◌, true, false, cond, ◌⊎◌, List, [], ◌∷◌, length, get_or, set, ℤ, Some, None, sym, refl, ap, subst, ⊎_elim, arith}
+use Rattle.std.proofs.Common.{◌≡◌, ℕ, zero, suc, ◌<◌, ◌≤◌, true, false, cond, List, [], ◌∷◌, length, get_or, set, ℤ, Some, None, sym, refl, ap, subst, ⊎_elim, arith}
 use lib.Signed.{lt_z}
 use Rattle.std.specs.List.{insert, remove}
 use Rattle.std.proofs.lemmas.Int.{ints}

@@ -1,5 +1,5 @@
 -- The sheets that a text can say: every number is one that its field may hold, and no count is exceeded. Assumes nothing.
-use Rattle.std.specs.Prelude.{ℕ, Bool, true, false, ◌&&◌, List, [], ◌∷◌, length, ℤ, nat_le}
+use Rattle.std.specs.Prelude.{Bool, true, false, ◌&&◌, List, [], ◌∷◌, length, ℤ, nat_le}
 use Rattle.sheet.specs.Columns.{allowed}
 use Rattle.sheet.specs.Fields.{fields_of}
 use Rattle.sheet.specs.Reading.{TextSheet}

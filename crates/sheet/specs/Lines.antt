@@ -1,5 +1,5 @@
 -- What one line says, or why it is refused: its form first, then its fields from the left. Assumes nothing.
-use Rattle.std.specs.Prelude.{ℕ, ◌-◌, Bool, cond, List, [], ◌∷◌, length, take, drop, ℤ, pos, Some, None, Ok, Err, Option, Result, ◌==◌, slice_index, slice_index_or, unsigned_abs}
+use Rattle.std.specs.Prelude.{ℕ, ◌-◌, cond, List, [], ◌∷◌, length, take, drop, ℤ, pos, Some, None, Ok, Err, Option, Result, ◌==◌, slice_index, slice_index_or, unsigned_abs}
 use Rattle.std.specs.Option.{unwrap_or}
 use Rattle.sheet.specs.Columns.{field_read}
 use Rattle.sheet.specs.Fields.{width_of, letter_of, fields_of, widths}

@@ -1,6 +1,6 @@
 -- The table of the ops: of each its number, what its operand means, what it takes from the stack and leaves there, and
 -- whether control goes on behind it. Assumes nothing.
-use Rattle.std.specs.Prelude.{ℕ, zero, suc, Bool, true, false, List, [], ◌∷◌, None, Option}
+use Rattle.std.specs.Prelude.{ℕ, zero, suc, true, false, List, [], ◌∷◌, None, Option}
 use Rattle.std.specs.List.{slice_get}
 use Rattle.sheet.specs.declared.op.Amount.{Amount}
 use Rattle.sheet.specs.declared.op.Amount.TheVariants.{Fixed, Arguments, Gives, ArgumentsAndGives, ArgumentsAndOne, OwnGives}

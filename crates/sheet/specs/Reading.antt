@@ -1,8 +1,8 @@
 -- What reading a text answers: the sheet, or the first faulty line with the lowest of its refusals. Assumes nothing.
-use Rattle.std.specs.Prelude.{ℕ, suc, ◌+◌, Bool, true, false, cond, List, [], ◌∷◌, length, Ok, Err, Result, ◌==◌, nat_lt}
+use Rattle.std.specs.Prelude.{ℕ, suc, Bool, true, false, cond, List, [], ◌∷◌, length, Ok, Err, Result, ◌==◌, nat_lt}
 use Rattle.sheet.specs.Lines.{line_read}
 use Rattle.sheet.specs.Maps.{and_then, raised}
-use Rattle.sheet.specs.View.{Method, Sheet, empty_sheet, with_library, with_methods, on_last, with_code, with_handlers, pushed, bare, instructions_in, handlers_in, last_method}
+use Rattle.sheet.specs.View.{Sheet, empty_sheet, with_library, with_methods, on_last, with_code, with_handlers, pushed, bare, instructions_in, handlers_in, last_method}
 use Rattle.sheet.specs.declared.location.PlainLocation.{PlainLocation}
 use Rattle.sheet.specs.declared.records.Handler.{Handler}
 use Rattle.sheet.specs.declared.records.ReadInstruction.{ReadInstruction}

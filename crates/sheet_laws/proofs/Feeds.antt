@@ -1,15 +1,15 @@
 -- The text of a line has one line feed, at its end, so it is the first line of what it begins. Assumes nothing.
-use Rattle.std.proofs.Common.{◌≡◌, ℕ, zero, suc, ◌+◌, ◌-◌, ◌%◌, ◌^◌, ◌<◌, ◌≤◌, Bool, true, false, ◌&&◌, eqb, List, [], ◌∷◌, ◌++◌, length, take, drop, replicate, ℤ, pos, negsuc, decimal, sym, refl, ap, ◌∙◌, arith}
+use Rattle.std.proofs.Common.{◌≡◌, ℕ, zero, suc, ◌+◌, ◌-◌, ◌%◌, ◌^◌, ◌<◌, true, eqb, List, [], ◌∷◌, ◌++◌, length, drop, replicate, ℤ, pos, negsuc, decimal, refl, ap, ◌∙◌, arith}
 use lib.Signed.{mag}
 use Rattle.std.specs.Fmt.{signed_decimal}
 use Rattle.std.proofs.lemmas.Fmt.{decimal_by_steps}
 use Rattle.std.proofs.lemmas.List.{append_assoc, length-append, length_push, take_at, drop_at}
-use Rattle.std.proofs.lemmas.Bool.{and_parts, ne_eqb, cond-true, cond-false}
+use Rattle.std.proofs.lemmas.Bool.{and_parts, ne_eqb, cond-false}
 use Rattle.sheet.specs.Bounds.{all_allowed}
 use Rattle.sheet.specs.Columns.{column, allowed}
 use Rattle.sheet.specs.Fields.{width_of, fields_of, letter_byte}
 use Rattle.sheet.specs.Reading.{lines, line_length}
-use Rattle.sheet.specs.Text.{columns, line_text}
+use Rattle.sheet.specs.Text.{columns}
 use Rattle.sheet.specs.declared.fields.Field.{Field}
 use Rattle.sheet.specs.declared.fields.Letter.{Letter}
 use Rattle.sheet.specs.declared.fields.Letter.TheVariants.{L, M, I, X}

@@ -1,11 +1,10 @@
 -- A line taken apart: letter, fields, line feed. Assumes nothing.
-use Rattle.std.proofs.Common.{◌≡◌, ℕ, ◌-◌, ◌<◌, Bool, true, false, cond, eqb, List, [], ◌∷◌, length, get_or, take, drop, Some, Ok, Err, Result, sym, refl, ap, ◌∙◌, arith}
+use Rattle.std.proofs.Common.{◌≡◌, ℕ, ◌-◌, ◌<◌, cond, eqb, List, [], ◌∷◌, length, get_or, take, drop, Some, Ok, Err, sym, ap, ◌∙◌, arith}
 use Rattle.std.proofs.lemmas.List.{take_rest}
 use Rattle.std.proofs.lemmas.Bool.{eq-eqb, ne_eqb, cond-true, cond-false}
 use Rattle.sheet.specs.Fields.{letter_of, widths, fields_of}
 use Rattle.sheet.specs.Lines.{parted, behind_letter, last_byte, front}
 use Rattle.sheet.specs.declared.fields.Letter.{Letter}
-use Rattle.sheet.specs.declared.faults.FormFault.{FormFault}
 use Rattle.sheet.specs.declared.faults.FormFault.TheVariants.{NoLineFeed, WrongLength}
 
 -- what stands behind the first byte of a line

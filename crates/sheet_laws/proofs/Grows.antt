@@ -1,13 +1,13 @@
 -- A sheet with one line more: its text and its bounds. Assumes nothing.
-use Rattle.std.proofs.Common.{◌≡◌, ℕ, zero, suc, ◌+◌, ◌-◌, ◌<◌, ◌≤◌, Bool, true, false, cond, ◌&&◌, ltb, leb, List, [], ◌∷◌, ◌++◌, length, Ok, Err, Result, sym, refl, ap, ◌∙◌, subst, ⊎_elim, arith}
+use Rattle.std.proofs.Common.{◌≡◌, ℕ, suc, ◌+◌, ◌<◌, ◌≤◌, Bool, true, false, cond, ltb, leb, List, [], ◌∷◌, ◌++◌, length, Ok, Err, Result, sym, refl, ap, ◌∙◌, subst, ⊎_elim, arith}
 use Rattle.std.specs.List.{flat_map}
-use Rattle.std.proofs.lemmas.List.{append_assoc, append-nil, length-append, length_push, flat_map_more}
+use Rattle.std.proofs.lemmas.List.{append_assoc, append-nil, length_push, flat_map_more}
 use Rattle.std.proofs.lemmas.Bool.{and_parts, and_from, leb-true, le-leb, ltb-true, cond-true, cond-false, cases_Bool}
 use Rattle.sheet.specs.Bounds.{every, all_allowed, method_allowed, few_enough, in_range}
 use Rattle.sheet.specs.Fields.{fields_of}
 use Rattle.sheet.specs.Reading.{TextSheet, none, counted, added}
 use Rattle.sheet.specs.Text.{signature_numbers, shape_numbers, instruction_numbers, handler_numbers, signature_text, shape_text, instruction_text, handler_text, method_text, sheet_text}
-use Rattle.sheet.specs.View.{Method, Sheet, with_library, with_methods, on_last, with_code, with_handlers, pushed, bare, instructions_in, handlers_in, last_method}
+use Rattle.sheet.specs.View.{Method, with_library, with_methods, on_last, with_code, with_handlers, pushed, bare, instructions_in, handlers_in, last_method}
 use Rattle.sheet.specs.declared.location.PlainLocation.{PlainLocation}
 use Rattle.sheet.specs.declared.faults.Counted.{Counted}
 use Rattle.sheet.specs.declared.faults.LineFault.{LineFault}

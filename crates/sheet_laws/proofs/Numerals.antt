@@ -1,17 +1,16 @@
 -- The fields of a line and the numbers in them: written and read again. Assumes nothing.
-use Rattle.std.proofs.Common.{◌≡◌, ℕ, zero, suc, ◌+◌, ◌-◌, ◌^◌, ◌<◌, ◌≤◌, Bool, true, false, cond, ◌&&◌, List, [], ◌∷◌, ◌++◌, length, take, drop, ℤ, pos, negsuc, Some, None, Ok, Err, decimal, Option, Result, sym, refl, ap, ◌∙◌, subst, ⊎_elim, arith}
+use Rattle.std.proofs.Common.{◌≡◌, ℕ, ◌+◌, ◌^◌, ◌<◌, ◌≤◌, true, false, ◌&&◌, List, [], ◌∷◌, ◌++◌, length, take, drop, ℤ, pos, negsuc, Some, None, Ok, Err, Option, Result, sym, refl, ap, ◌∙◌, ⊎_elim, arith}
 use lib.Signed.{mag, le_z}
 use Rattle.std.specs.Fmt.{signed_decimal}
 use Rattle.std.proofs.lemmas.Fmt.{length-decimal-le, length_signed_le}
-use Rattle.std.proofs.lemmas.List.{length-append, length-drop, length-take-le, take-append-drop, take_at, drop_at, take_all, nil_from_length}
+use Rattle.std.proofs.lemmas.List.{length-append, length-drop, length-take-le, take-append-drop, take_at, drop_at, nil_from_length}
 use Rattle.std.proofs.lemmas.Bool.{and_parts, and_from, leb-true, cond-true, cond-false, cases_Bool}
 use Rattle.sheet.specs.Bounds.{all_allowed}
 use Rattle.sheet.specs.Columns.{column, held, allowed, judged, field_read}
-use Rattle.sheet.specs.Fields.{width_of, widths, lowest, highest}
+use Rattle.sheet.specs.Fields.{width_of, widths}
 use Rattle.sheet.specs.Lines.{numbers_in}
 use Rattle.sheet.specs.Maps.{and_then, raised}
 use Rattle.sheet.specs.Text.{columns}
-use Rattle.sheet.specs.declared.faults.FieldFault.{FieldFault}
 use Rattle.sheet.specs.declared.fields.Field.{Field}
 use Rattle.sheet.specs.declared.fields.Field.TheVariants.{Arguments, Gives, Watched, Locals, StackLimit, Op, Operand, TryBegin, TryEnd, Kind, CatchBegin, CatchEnd}
 use Rattle.sheet_laws.proofs.Held.{held_some, held_is}

@@ -1,13 +1,13 @@
 -- A line and what it says: written and read again. Assumes nothing.
-use Rattle.std.proofs.Common.{◌≡◌, ℕ, zero, suc, ◌+◌, ◌-◌, ◌<◌, ◌≤◌, Bool, true, false, cond, ◌&&◌, eqb, List, [], ◌∷◌, ◌++◌, length, get_or, take, ℤ, pos, negsuc, nat_abs, Some, None, Ok, Err, Option, Result, unwrap_or, sym, refl, ap, ◌∙◌, ⊎_elim, arith}
+use Rattle.std.proofs.Common.{◌≡◌, ℕ, zero, suc, ◌+◌, ◌-◌, ◌<◌, Bool, true, false, cond, ◌&&◌, eqb, List, [], ◌∷◌, ◌++◌, length, get_or, take, ℤ, pos, negsuc, nat_abs, Some, None, Ok, Option, unwrap_or, sym, refl, ap, ◌∙◌, ⊎_elim, arith}
 use lib.Signed.{le_z}
-use Rattle.std.proofs.lemmas.List.{get_or_push, length_push, length-append, take_at, take_all, take_more, take-append-drop}
+use Rattle.std.proofs.lemmas.List.{get_or_push, length_push, take_at, take_all, take_more}
 use Rattle.std.proofs.lemmas.Option.{slice_get-get_or}
-use Rattle.std.proofs.lemmas.Bool.{and_parts, and_from, leb-true, eq-eqb, ne_eqb, eqb-true, cond-true, cond-false, cases_Bool}
+use Rattle.std.proofs.lemmas.Bool.{and_parts, leb-true, eq-eqb, eqb-true, cond-true, cond-false, cases_Bool}
 use Rattle.sheet.specs.Bounds.{all_allowed}
 use Rattle.sheet.specs.Columns.{allowed}
 use Rattle.sheet.specs.Fields.{fields_of, widths, letter_byte, letter_of}
-use Rattle.sheet.specs.Lines.{numbers_in, line_of, fields_read, last_byte, front, behind_letter, parted, line_read, natural}
+use Rattle.sheet.specs.Lines.{numbers_in, line_of, fields_read, last_byte, front, behind_letter, parted, line_read}
 use Rattle.sheet.specs.Maps.{and_then, raised}
 use Rattle.sheet.specs.Numbers.{flag, kind_number, kind_numbered}
 use Rattle.sheet.specs.Ops.{ops, op_number, op_numbered}
@@ -18,10 +18,9 @@ use Rattle.sheet.specs.declared.fields.Field.{Field}
 use Rattle.sheet.specs.declared.fields.Field.TheVariants.{Arguments, Gives, Watched, Locals, StackLimit, Op as AsOp, Operand, TryBegin, TryEnd, Kind as AsKind, CatchBegin, CatchEnd}
 use Rattle.sheet.specs.declared.fields.Letter.{Letter}
 use Rattle.sheet.specs.declared.fields.Letter.TheVariants.{L, M, I, X}
-use Rattle.sheet.specs.declared.faults.FormFault.{FormFault}
 use Rattle.sheet.specs.declared.faults.LineFault.TheVariants.{Form, Field as OfField}
 use Rattle.sheet.specs.declared.records.Kind.{Kind}
-use Rattle.sheet.specs.declared.records.Kind.TheVariants.{Every, SecurityOnly}
+use Rattle.sheet.specs.declared.records.Kind.TheVariants.{Every}
 use Rattle.sheet.specs.declared.records.Line.{Line}
 use Rattle.sheet.specs.declared.records.Line.TheVariants.{Library, Method, Instruction, Handler}
 use Rattle.sheet_laws.proofs.Numbering.{op_found, op_numbered_lem, kind_found}

@@ -1,29 +1,29 @@
 -- The law of the one text, and how long that text is. Assumes nothing.
-use Rattle.std.proofs.Common.{◌≡◌, ℕ, zero, suc, ◌+◌, ◌*◌, ◌<◌, ◌≤◌, Bool, true, false, ◌&&◌, eqb, List, [], ◌∷◌, ◌++◌, length, Ok, Err, Result, sym, refl, ap, ◌∙◌, subst, ⊎_elim, mul-add, arith, MatchResult}
+use Rattle.std.proofs.Common.{◌≡◌, ℕ, suc, ◌+◌, ◌*◌, ◌<◌, ◌≤◌, Bool, true, eqb, List, [], ◌∷◌, ◌++◌, length, Ok, Err, Result, sym, refl, ap, ◌∙◌, subst, ⊎_elim, mul-add, arith, MatchResult}
 use Rattle.std.specs.List.{flat_map}
 use Rattle.std.proofs.lemmas.List.{append_assoc, append-nil, length-append, length_push}
 use Rattle.std.proofs.lemmas.Bool.{and_parts, cond-true, cond-false, cases_Bool}
 use Rattle.sheet.specs.Bounds.{every, all_allowed, method_allowed, in_range}
 use Rattle.sheet.specs.Fields.{fields_of, widths, letter_byte}
-use Rattle.sheet.specs.Laws.{OneText, TextLaw}
+use Rattle.sheet.specs.Laws.{TextLaw}
 use Rattle.sheet.specs.Lines.{line_read}
 use Rattle.sheet.specs.Maps.{and_then, raised}
 use Rattle.sheet.specs.Reading.{TextSheet, none, added, line_taken, ahead, lines, lines_read, reading}
 use Rattle.sheet.specs.Text.{columns, signature_text, shape_text, instruction_text, handler_text, method_text, sheet_text, shape_numbers}
-use Rattle.sheet.specs.View.{Method, Sheet, empty_sheet, on_last, with_code, with_handlers, pushed, bare, instructions_in, handlers_in, last_method}
+use Rattle.sheet.specs.View.{empty_sheet, on_last, with_code, with_handlers, pushed, instructions_in, handlers_in, last_method}
 use Rattle.sheet.specs.declared.location.PlainLocation.{PlainLocation}
 use Rattle.sheet.specs.declared.faults.SheetFault.{SheetFault}
 use Rattle.sheet.specs.declared.faults.SheetFault.TheVariants.{Line as AtLine}
-use Rattle.sheet.specs.declared.fields.Letter.TheVariants.{L, M, I, X}
+use Rattle.sheet.specs.declared.fields.Letter.TheVariants.{M}
 use Rattle.sheet.specs.declared.records.Handler.{Handler}
 use Rattle.sheet.specs.declared.records.Line.{Line}
 use Rattle.sheet.specs.declared.records.Line.TheVariants.{Library, Method as OwnMethod, Instruction, Handler as ItsHandler}
 use Rattle.sheet.specs.declared.records.ReadInstruction.{ReadInstruction}
 use Rattle.sheet.specs.declared.records.Shape.{Shape}
 use Rattle.sheet.specs.declared.records.Signature.{Signature}
-use Rattle.sheet_laws.proofs.Adds.{none_there, some_there, signature_ok, shape_ok, instruction_ok, handler_ok}
+use Rattle.sheet_laws.proofs.Adds.{some_there, signature_ok, shape_ok, instruction_ok, handler_ok}
 use Rattle.sheet_laws.proofs.Feeds.{lines_line}
-use Rattle.sheet_laws.proofs.Grows.{TextMethod, signature_fits, instruction_fits, handler_fits, Within, within_from, within_to, instructions_push, handlers_push, Grown, grown_by}
+use Rattle.sheet_laws.proofs.Grows.{TextMethod, signature_fits, instruction_fits, handler_fits, Within, within_from, within_to, instructions_push, handlers_push, grown_by}
 use Rattle.sheet_laws.proofs.Numerals.{and_then_ok, raised_ok, length_columns}
 use Rattle.sheet_laws.proofs.Places.{line_length_lem, three_length}
 use Rattle.sheet_laws.proofs.Says.{letter, numbers, text_of, permitted, line_reads, line_is}

@@ -1,7 +1,7 @@
 -- A stored sheet's methods after one more record, and a method's part of the lists. Assumes nothing.
-use Rattle.std.proofs.Common.{◌≡◌, ℕ, zero, suc, ◌+◌, ◌-◌, ◌<◌, ◌≤◌, Bool, true, ◌&&◌, leb, List, [], ◌∷◌, ◌++◌, length, get_or, take, drop, set, vec_items, vec_len, sym, refl, ap, ◌∙◌, zero-add, arith}
+use Rattle.std.proofs.Common.{◌≡◌, ℕ, zero, suc, ◌+◌, ◌-◌, ◌<◌, ◌≤◌, Bool, true, ◌&&◌, leb, List, [], ◌∷◌, ◌++◌, length, get_or, take, drop, set, vec_items, vec_len, sym, refl, ap, ◌∙◌, arith}
 use native.Mathlib.Numerals.{unary_clauses}
-use Rattle.std.proofs.lemmas.List.{take_all, take-take, drop-take, take_rest, length_push, length-drop, length-take, drop_all, set-get_or, get_or_read, get_or_default, take-append-le, drop-append-le, drop_at}
+use Rattle.std.proofs.lemmas.List.{take-take, drop-take, take_rest, length-drop, length-take, drop_all, set-get_or, take-append-le, drop-append-le, drop_at}
 use Rattle.std.proofs.lemmas.Bool.{and_parts, and_from, leb-true, le-leb}
 use Rattle.std.specs.List.{between}
 use Rattle.sheet_store.specs.Tiles.{ordered, code_start, handler_start}

@@ -1,10 +1,10 @@
 -- What a stored sheet's facts say of the sheet that it holds, and of one with one record more. Assumes nothing.
-use Rattle.std.proofs.Common.{◌≡◌, ℕ, suc, ◌+◌, ◌-◌, ◌<◌, ◌≤◌, true, eqb, List, length, get_or, drop, Some, None, vec_items, vec_len, Option, sym, ap, ◌∙◌, ⊎_elim, arith}
+use Rattle.std.proofs.Common.{◌≡◌, ℕ, suc, ◌-◌, ◌<◌, ◌≤◌, true, eqb, List, length, get_or, drop, Some, None, vec_items, vec_len, sym, ap, ◌∙◌, ⊎_elim, arith}
 use Rattle.std.specs.List.{between, slice_get}
 use Rattle.std.specs.Option.{option_map}
 use Rattle.sheet_store.specs.Tiles.{ordered, code_start, handler_start}
 use Rattle.sheet.specs.Reading.{none}
-use Rattle.sheet.specs.View.{last_method, method_at, nobody, instructions_in, handlers_in, on_last, with_code, with_handlers, pushed}
+use Rattle.sheet.specs.View.{last_method, method_at, nobody, instructions_in, handlers_in}
 use Rattle.sheet_store.specs.Stored.{cut, last_of, methods_of, sheet_of, code_begin, handler_begin}
 use Rattle.sheet_store.specs.declared.stored.Header.{Header}
 use Rattle.sheet_store.specs.declared.stored.StoredSheet.{StoredSheet}
@@ -12,7 +12,7 @@ use Rattle.std.proofs.lemmas.List.{get_or_past, get_or_default, length-drop}
 use Rattle.std.proofs.lemmas.Bool.{eq-eqb, ne_eqb, cases_eq}
 use Rattle.sheet_laws.proofs.Adds.{none_there, some_there}
 use Rattle.std.proofs.lemmas.Option.{slice_get-get_or, slice_get_past}
-use Rattle.sheet_store.proofs.Cuts.{cut_length, cut_instructions, cut_handlers, lengths, code_pushed, handler_pushed, ordered_more, start_more, code_at, handlers_at, shape_at, last_is, last_within, last_method_lem}
+use Rattle.sheet_store.proofs.Cuts.{cut_length, cut_instructions, cut_handlers, lengths, code_at, handlers_at, shape_at, last_is, last_within, last_method_lem}
 
 -- nothing stands behind the first k exactly when there are k
 none_drop : {X : Type 0} (k : ℕ) (xs : List X) → k ≤ length xs → none (drop k xs) ≡ eqb k (length xs)

@@ -1,5 +1,5 @@
 -- The sheet that a stored one holds. Assumes nothing.
-use Rattle.std.specs.Prelude.{ℕ, zero, suc, ◌-◌, List, [], ◌∷◌, take, drop, vec_items}
+use Rattle.std.specs.Prelude.{ℕ, zero, suc, List, [], ◌∷◌, drop, vec_items}
 use Rattle.std.specs.List.{between}
 use Rattle.sheet.specs.View.{Method, Sheet, no_shape}
 use Rattle.sheet_store.specs.declared.stored.Header.{Header}

@@ -1,5 +1,5 @@
 -- How the methods of a stored sheet share its two lists. Assumes nothing.
-use Rattle.std.specs.Prelude.{ℕ, ◌≤◌, Bool, true, ◌&&◌, List, [], ◌∷◌, nat_le}
+use Rattle.std.specs.Prelude.{ℕ, Bool, true, ◌&&◌, List, [], ◌∷◌, nat_le}
 use Rattle.sheet_store.specs.declared.stored.Header.{Header}
 
 -- where the code of the first method begins, or n without one

@@ -1,9 +1,9 @@
-use Rattle.std.proofs.Common.{◌≡◌, length, get_or, Err, sym, ap, ◌∙◌, subst, arith, MatchResult}
+use Rattle.std.proofs.Common.{◌≡◌, length, get_or, Err, sym, ap, ◌∙◌, arith}
 use Rattle.std.proofs.lemmas.List.{get_or-map, length-map}
 use Rattle.std.proofs.lemmas.Result.{err_from_is_err_and}
 use Rattle.sheet.specs.View.{nobody, no_shape, method_at}
 use Rattle.sheet_store.specs.Stored.{sheet_of, methods_of}
-use Rattle.check_rules.specs.Check.{method_checked, methods_checked, shapes_of}
+use Rattle.check_rules.specs.Check.{method_checked, shapes_of}
 use Rattle.checking.specs.Methods.{Grown}
 use Rattle.checking.proofs.Sheets.{room, refused, sofar_more, sofar_all, located_ok, located_err, with_shapes}
 use Rattle.checking.proofs.check.check_methods.Goals as goal

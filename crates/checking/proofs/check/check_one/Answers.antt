@@ -1,4 +1,4 @@
-use Rattle.std.proofs.Common.{◌≡◌, length, sym, ap, ◌∙◌, arith}
+use Rattle.std.proofs.Common.{length, sym, ap, ◌∙◌, arith}
 use Rattle.sheet.specs.declared.instruction.Instruction.{Instruction}
 use Rattle.sheet.specs.declared.instruction.Instruction.TheVariants.{Return}
 use Rattle.sheet.specs.declared.location.PlainLocation.{PlainLocation}

@@ -1,5 +1,5 @@
-use Rattle.std.proofs.Common.{◌≡◌, ℕ, ◌+◌, ◌-◌, ◌/◌, ◌%◌, ◌<◌, ◌≤◌, [], ◌∷◌, ◌++◌, length, decimal, sym, ap, ◌∙◌, subst, arith, rules}
-use Rattle.sheet.specs.Columns.{column, minus_text}
+use Rattle.std.proofs.Common.{◌+◌, ◌%◌, length, ap, arith, rules}
+use Rattle.sheet.specs.Columns.{minus_text}
 use Rattle.sheet_laws.proofs.Columns.{last_one, front_length}
 use Rattle.sheet_laws.proofs.Signs.{sign_one, sign_step, long_one, long_step}
 use Rattle.sheet_text.proofs.number.+write_digits.Goals as goal

@@ -1,5 +1,3 @@
-use Rattle.std.proofs.Common.{◌≡◌, sym, arith}
-use Rattle.sheet_laws.proofs.Columns.{behind_blanks}
 use Rattle.sheet_laws.proofs.Held.{read_held}
 use Rattle.sheet_text.proofs.number.read_column.Goals as goal
 

@@ -1,4 +1,4 @@
-use Rattle.std.proofs.Common.{◌≡◌, suc, ◌-◌, ◌^◌, ◌<◌, ◌∷◌, length, get_or, drop, ℤ, pos, negsuc, ◌-ℤ◌, decimal, sym, ap, ◌∙◌, subst, arith, w64, to_z, of_z, rules, ltb-false}
+use Rattle.std.proofs.Common.{◌≡◌, suc, ◌-◌, ◌^◌, ◌<◌, ◌∷◌, length, get_or, drop, pos, negsuc, ◌-ℤ◌, decimal, sym, ap, ◌∙◌, subst, arith, w64, to_z, of_z, rules, ltb-false}
 use lib.Signed.{mag}
 use Rattle.std.specs.Fmt.{signed_decimal}
 use Rattle.std.proofs.lemmas.Int.{ints}

@@ -1,4 +1,4 @@
-use Rattle.std.proofs.Common.{◌≡◌, length, ap, ◌∙◌, arith}
+use Rattle.std.proofs.Common.{length}
 use Rattle.sheet_laws.proofs.Signs.{sign_written}
 use Rattle.sheet_text.proofs.number.write_sign.Goals as goal
 

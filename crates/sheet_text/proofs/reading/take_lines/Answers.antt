@@ -1,4 +1,4 @@
-use Rattle.std.proofs.Common.{◌≡◌, ◌<◌, length, take, drop, Err, sym, ap, ◌∙◌, add-one, arith, true-eqb, false-eqb}
+use Rattle.std.proofs.Common.{◌<◌, length, take, drop, Err, sym, ap, ◌∙◌, add-one, arith, true-eqb, false-eqb}
 use Rattle.std.proofs.lemmas.Result.{err_from_is_err_and}
 use Rattle.sheet.specs.Reading.{lines_read, lines}
 use Rattle.sheet_store.specs.Stored.{sheet_of}

@@ -1,4 +1,4 @@
-use Rattle.std.proofs.Common.{◌≡◌, ◌+◌, ◌-◌, ◌≤◌, length, take, drop, decimal, sym, ap, ◌∙◌, arith}
+use Rattle.std.proofs.Common.{◌+◌, ◌-◌, ◌≤◌, length, take, drop, decimal, sym, ap, ◌∙◌, arith}
 use Rattle.sheet.specs.Columns.{column}
 use Rattle.sheet_laws.proofs.Places.{count_short, length_count, part_length, placed_column}
 use Rattle.sheet_text.proofs.writing.put_count.Goals as goal

@@ -1,4 +1,4 @@
-use Rattle.std.proofs.Common.{◌≡◌, sym, ap, ◌∙◌, arith}
+use Rattle.std.proofs.Common.{arith}
 use Rattle.std.specs.List.{flat_map}
 use Rattle.sheet.specs.Text.{count}
 use Rattle.sheet_laws.proofs.Places.{line_length_lem, line_placed}

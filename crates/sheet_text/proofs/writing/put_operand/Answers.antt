@@ -1,4 +1,4 @@
-use Rattle.std.proofs.Common.{◌≡◌, ◌+◌, ◌-◌, ◌≤◌, length, take, drop, pos, sym, ap, ◌∙◌, arith, w32, to_z, of_z}
+use Rattle.std.proofs.Common.{◌+◌, ◌-◌, ◌≤◌, length, take, drop, pos, sym, ap, ◌∙◌, arith, w32, to_z, of_z}
 use lib.Signed.{lt_z}
 use Rattle.std.specs.Fmt.{signed_decimal}
 use Rattle.sheet.specs.Columns.{column}

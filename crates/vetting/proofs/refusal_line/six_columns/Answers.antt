@@ -1,4 +1,4 @@
-use Rattle.std.proofs.Common.{◌≡◌, ◌-◌, string_bytes, ap, ◌∙◌}
+use Rattle.std.proofs.Common.{◌-◌, string_bytes, ap, ◌∙◌}
 use Rattle.std.proofs.lemmas.Result.{IfOk-weaker}
 use Rattle.vetting.proofs.Padded.{padded}
 use Rattle.vetting.proofs.refusal_line.six_columns.Goals as goal

@@ -1,4 +1,4 @@
-use Rattle.std.proofs.Common.{◌≡◌, ◌-◌, length, pos, rules}
+use Rattle.std.proofs.Common.{◌≡◌, length, pos, rules}
 use Rattle.std.proofs.lemmas.List.{places}
 use Rattle.libraries.proofs.Joins.{two_taken}
 use Rattle.libraries.proofs.page.Page.take_two.Goals as goal

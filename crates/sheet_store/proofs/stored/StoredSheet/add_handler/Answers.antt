@@ -1,4 +1,4 @@
-use Rattle.std.proofs.Common.{◌≡◌, ◌<◌, length, vec_items, vec_len, refl, ap, arith}
+use Rattle.std.proofs.Common.{◌<◌, length, vec_items, vec_len, refl, ap, arith}
 use Rattle.sheet.specs.View.{with_methods}
 use Rattle.sheet_store.specs.Stored.{sheet_of, methods_of}
 use Rattle.sheet_store.proofs.Cuts.{handler_pushed, ordered_more, start_more}

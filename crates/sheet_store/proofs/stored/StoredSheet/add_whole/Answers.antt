@@ -1,4 +1,4 @@
-use Rattle.std.proofs.Common.{◌≡◌, [], ◌∷◌, ◌++◌, vec_items, vec_len, sym, refl, ap, ◌∙◌, inl, inr, arith}
+use Rattle.std.proofs.Common.{[], ◌∷◌, ◌++◌, vec_items, vec_len, refl, ap, ◌∙◌, inl, inr, arith}
 use Rattle.sheet.specs.View.{with_methods}
 use Rattle.sheet_store.specs.Stored.{cut, sheet_of}
 use Rattle.sheet_store.specs.Tiles.{ordered, code_start, handler_start}

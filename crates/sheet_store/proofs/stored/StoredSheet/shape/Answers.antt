@@ -1,4 +1,4 @@
-use Rattle.std.proofs.Common.{Some, vec_items, sym, ap, ◌∙◌, arith}
+use Rattle.std.proofs.Common.{sym, ◌∙◌, arith}
 use Rattle.std.proofs.lemmas.Bool.{ltb-true, ltb-false}
 use Rattle.sheet_store.proofs.Stores.{shape_there, shape_none}
 use Rattle.sheet_store.proofs.stored.StoredSheet.shape.Goals as goal

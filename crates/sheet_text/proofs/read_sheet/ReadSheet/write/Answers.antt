@@ -1,8 +1,8 @@
-use Rattle.std.proofs.Common.{◌≡◌, ◌+◌, ◌<◌, length, sym, refl, ap, ◌∙◌, arith}
+use Rattle.std.proofs.Common.{length, refl, ap, ◌∙◌, arith}
 use Rattle.std.specs.List.{flat_map}
 use Rattle.std.proofs.lemmas.List.{length-append}
 use Rattle.sheet.specs.Text.{placed, signature_text, method_text}
-use Rattle.sheet_store.specs.Stored.{sheet_of, methods_of}
+use Rattle.sheet_store.specs.Stored.{sheet_of}
 use Rattle.sheet_laws.proofs.Places.{placed_more}
 use Rattle.sheet_laws.proofs.TextLaws.{written_read}
 use Rattle.sheet_text.proofs.read_sheet.ReadSheet.write.Goals as goal
