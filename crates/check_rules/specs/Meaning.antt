@@ -1,5 +1,5 @@
 -- What it means that the depths of a method agree. Assumes nothing.
-use Rattle.std.specs.Prelude.{◌≡◌, ℕ, ◌+◌, ◌-◌, ◌<◌, ◌≤◌, true, ◌⊎◌, List, [], ◌∷◌, length, get_or, Some, None, slice_index_or}
+use Rattle.std.specs.Prelude.{◌≡◌, ℕ, ◌+◌, ◌-◌, ◌<◌, ◌≤◌, true, ◌⊎◌, List, [], ◌∷◌, length, Some, None, slice_index_or}
 use Rattle.std.specs.List.{AllByRecursion}
 use Rattle.check_rules.specs.declared.effect.Effect.{Effect}
 use Rattle.check_rules.specs.Depths.{Depths}
@@ -8,7 +8,7 @@ use Rattle.check_rules.specs.Depths.{Depths}
 -- limit, and every location that it leads to exists and has the depth that it leaves
 pub record Sound (K : ℕ) (ds : Depths) (r : Effect) (at : ℕ) : Type 0 where
   pub depth : ℕ
-  pub here : get_or ds at None ≡ Some depth
+  pub here : slice_index_or ds at None ≡ Some depth
   pub within : depth ≤ K
   pub enough : r.takes ≤ depth
   pub fits : depth - r.takes + r.leaves ≤ K
@@ -18,7 +18,7 @@ pub record Sound (K : ℕ) (ds : Depths) (r : Effect) (at : ℕ) : Type 0 where
 
 -- one depth for each location of a method: location 0 has 0, each catch begin has 1, and every instruction is sound
 pub record Typed (K : ℕ) (rows : List Effect) (catches : List ℕ) (ds : Depths) : Type 0 where
-  pub begins : get_or ds 0 None ≡ Some 0
+  pub begins : slice_index_or ds 0 None ≡ Some 0
   pub sound : (at : ℕ) (r : Effect) → at < length rows → r ≡ slice_index_or rows at r → Sound K ds r at
   pub caught : AllByRecursion (λ b. slice_index_or ds b None ≡ Some 1) catches
 

@@ -11,8 +11,9 @@ fn refused(chart: &mut Chart, from: u8, kind: u8, method: u8, to: u8) -> Result<
         Ok(()) => Err(Fail::new("drawn")),
         Err(fault) => {
             let refusal = fault.refusal();
-            if (refusal.number, refusal.first, refusal.second) != (17, 0, 0) {
-                return Err(Fail::new("another refusal"));
+            let found = (refusal.number, refusal.first, refusal.second);
+            if found != (17, 0, 0) {
+                return Err(Fail::new(format_args!("{found:?}, and not (17, 0, 0)")));
             }
             Ok(())
         }

@@ -9,8 +9,9 @@ fn check_refused(read: Result<(), SheetFault>, number: u8, line: usize) -> Resul
         Ok(()) => Err(Fail::new("the text reads")),
         Err(fault) => {
             let refusal = fault.refusal();
-            if (refusal.number, refusal.first, refusal.second) != (number, line, 0) {
-                return Err(Fail::new("another refusal"));
+            let found = (refusal.number, refusal.first, refusal.second);
+            if found != (number, line, 0) {
+                return Err(Fail::new(format_args!("{found:?}, and not {number} at {line}, 0")));
             }
             Ok(())
         }
