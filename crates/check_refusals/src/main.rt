@@ -3,7 +3,7 @@
 
 use cases::{Case, first_case};
 use checking::checked::CheckedSheet;
-use sheet::faults::Refusal;
+use refusal::Refusal;
 use sheet_text::read_sheet::ReadSheet;
 use std::io;
 use std::io::Read;
@@ -16,9 +16,9 @@ fn refusal_of(sheet: &mut ReadSheet, checked: &mut CheckedSheet, text: &[u8]) ->
     match sheet.read(text) {
         Ok(()) => match checked.check(sheet) {
             Ok(()) => None,
-            Err(fault) => Some(fault.refusal()),
+            Err(fault) => Some(Refusal::from(fault)),
         },
-        Err(fault) => Some(fault.refusal()),
+        Err(fault) => Some(Refusal::from(fault)),
     }
 }
 

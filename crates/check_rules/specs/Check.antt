@@ -1,5 +1,5 @@
 -- The check of a sheet: the checked sheet, or the lowest method that is refused with the first of its faults. Assumes nothing.
-use Rattle.std.specs.Prelude.{ℕ, suc, ◌+◌, cond, List, [], ◌∷◌, map, length, Some, None, Ok, Err, Option, Result, nat_lt}
+use Rattle.std.specs.Prelude.{ℕ, suc, ◌+◌, List, [], ◌∷◌, map, length, Some, None, Ok, Err, Option, Result, nat_lt, if◌then◌else◌}
 use Rattle.sheet.specs.Maps.{and_then, raised}
 use Rattle.sheet.specs.Reading.{TextSheet, none}
 use Rattle.sheet.specs.View.{Method, Sheet}
@@ -43,7 +43,7 @@ decoded_from p at (r ∷ rs) = decoded_then at (decoded p r) (decoded_from p (su
 -- that the handlers of a method suit it, from one on, or the first that does not
 abbrev pub handled_from : ℕ → ℕ → ℕ → List (Handler PlainLocation) → Result (Unit {0}) ℕ
 handled_from limit n at [] = Ok tt
-handled_from limit n at (x ∷ xs) = cond (handles limit n x) (handled_from limit n (suc at) xs) (Err at)
+handled_from limit n at (x ∷ xs) = if handles limit n x then handled_from limit n (suc at) xs else Err at
 
 -- where the catch ranges of some handlers begin
 abbrev pub catches : List (Handler PlainLocation) → List ℕ
@@ -65,12 +65,12 @@ place_in library shapes own n = record { library = library; shapes = shapes; own
 abbrev pub method_checked : List Signature → List Shape → ReadMethod → Result CheckedMethod MethodFault
 method_checked library shapes m =
     let p = place_in library shapes m.shape (length m.code) in
-    cond (none m.code) (Err NoInstruction)
-    (cond (nat_lt 256 (m.shape.arguments + m.shape.locals + m.shape.stack_limit)) (Err TooManyCells)
-    (and_then (raised Operand (decoded_from p 0 m.code)) (λ is.
+    if none m.code then Err NoInstruction
+    else if nat_lt 256 (m.shape.arguments + m.shape.locals + m.shape.stack_limit) then Err TooManyCells
+    else and_then (raised Operand (decoded_from p 0 m.code)) (λ is.
     and_then (raised AtHandler (handled_from m.shape.stack_limit (length m.code) 0 m.handlers)) (λ _.
     and_then (raised Depth (depths_of p is m.handlers)) (λ _.
-    Ok (record { shape = m.shape; code = is; handlers = m.handlers }))))))
+    Ok (record { shape = m.shape; code = is; handlers = m.handlers }))))
 
 -- the methods from the k-th on, upward
 abbrev pub methods_checked : List Signature → List Shape → ℕ → List ReadMethod → Result (List CheckedMethod) CheckFault
@@ -83,7 +83,7 @@ shapes_of ms = map (λ m. m.shape) ms
 
 -- what the check of a sheet answers
 abbrev pub checked : TextSheet → Result CheckedForm CheckFault
-checked s = cond (none s.methods) (Err NoMethod) (and_then (methods_checked s.library (shapes_of s.methods) 0 s.methods) (λ cs. Ok (record { library = s.library; methods = cs })))
+checked s = if none s.methods then Err NoMethod else and_then (methods_checked s.library (shapes_of s.methods) 0 s.methods) (λ cs. Ok (record { library = s.library; methods = cs }))
 
 -- a method and a sheet as a text has them
 abbrev pub method_encoded : CheckedMethod → ReadMethod

@@ -1,6 +1,6 @@
 -- The number and the two places of each fault of the check. Assumes nothing.
 use Rattle.std.specs.Prelude.{ℕ}
-use Rattle.sheet.specs.declared.faults.Refusal.{Refusal}
+use Rattle.refusal.specs.declared.Refusal.{Refusal}
 use Rattle.check_rules.specs.declared.faults.CheckFault.{CheckFault}
 use Rattle.check_rules.specs.declared.faults.CheckFault.TheVariants.{NoMethod, Method}
 use Rattle.check_rules.specs.declared.faults.MethodFault.{MethodFault}

@@ -1,5 +1,5 @@
 -- An instruction decoded from an op and a number, and encoded again. Assumes nothing.
-use Rattle.std.specs.Prelude.{ℕ, cond, List, length, ℤ, pos, negsuc, Some, None, Option, ◌==◌, nat_lt, slice_index_or}
+use Rattle.std.specs.Prelude.{ℕ, List, length, ℤ, pos, negsuc, Some, None, Option, ◌==◌, nat_lt, slice_index_or, if◌then◌else◌}
 use Rattle.std.specs.Option.{option_map}
 use Rattle.sheet.specs.Instructions.{op_of, operand_of, instruction_of}
 use Rattle.sheet.specs.Ops.{op_row}
@@ -15,18 +15,18 @@ use Rattle.check_rules.specs.Effects.{Place, no_signature}
 
 -- a number that is one of the first n naturals
 abbrev pub below : ℤ → ℕ → Option ℕ
-below (pos k) n = cond (nat_lt k n) (Some k) None
+below (pos k) n = if nat_lt k n then Some k else None
 below (negsuc k) n = None
 
 -- a number that must be 0
 abbrev pub zero_only : {P : Type 0} → ℤ → Option (Operand P)
-zero_only (pos k) = cond (k == 0) (Some Nothing) None
+zero_only (pos k) = if k == 0 then Some Nothing else None
 zero_only (negsuc k) = None
 
 -- a library method, if it is watched
 abbrev pub watched_only : List Signature → Option ℕ → Option ℕ
 watched_only ss None = None
-watched_only ss (Some h) = cond (slice_index_or ss h no_signature).watched (Some h) None
+watched_only ss (Some h) = if (slice_index_or ss h no_signature).watched then Some h else None
 
 -- what a number means as an operand, if it means anything there
 abbrev pub meaning : Place → OperandUse → ℤ → Option (Operand PlainLocation)

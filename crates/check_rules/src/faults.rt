@@ -1,10 +1,10 @@
 ghost use Rattle.std.specs.Prelude.{◌≡◌};
 ghost use Rattle.check_rules.specs.CheckRefusals.{check_refusal, method_refusal};
 
-use sheet::faults::Refusal;
+use refusal::Refusal;
 
 // Why a method is refused, and at which of its locations or handlers.
-#[derive(Clone, Copy)]
+#[derive(Clone, Copy, Debug, PartialEq, Eq)]
 pub enum MethodFault {
     NoInstruction,
     TooManyCells,
@@ -14,18 +14,18 @@ pub enum MethodFault {
 }
 
 // Why a sheet is refused: it has no own method, or the lowest of its methods that is refused.
-#[derive(Clone, Copy)]
+#[derive(Clone, Copy, Debug, PartialEq, Eq)]
 pub enum CheckFault {
     NoMethod,
     Method(usize, MethodFault),
 }
 
-impl CheckFault {
-    // The number of the refusal and its places: the method, and a location, a handler or 0.
-    pub fn refusal(self) -> Refusal
-        ensures { result ≡ check_refusal self }
-    {
-        match self {
+// The number of the refusal and its places: the method, and a location, a handler or 0.
+impl From<CheckFault> for Refusal {
+    ghost from_gives = { λ f r. r ≡ check_refusal f };
+
+    fn from(fault: CheckFault) -> Refusal {
+        match fault {
             CheckFault::NoMethod => Refusal {
                 number: 6,
                 first: 0,

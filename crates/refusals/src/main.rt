@@ -2,6 +2,7 @@
 #![tactic(auto)]
 
 use cases::{Case, first_case};
+use refusal::Refusal;
 use sheet_text::read_sheet::ReadSheet;
 use std::io;
 use std::io::Read;
@@ -26,7 +27,7 @@ fn print_answer(
             println!(rt; "{number} ok {library} {methods} {instructions} {handlers}: {comment}")
         }
         Err(fault) => {
-            let refusal = fault.refusal();
+            let refusal = Refusal::from(fault);
             let kind = refusal.number;
             let first = refusal.first;
             let second = refusal.second;

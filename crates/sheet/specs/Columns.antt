@@ -1,5 +1,5 @@
 -- A number in its columns: how it is written, and which number a field holds. Assumes nothing.
-use Rattle.std.specs.Prelude.{ℕ, ◌-◌, Bool, true, false, cond, ◌&&◌, List, [], ◌∷◌, ◌++◌, length, replicate, ℤ, pos, neg_ℤ, Some, None, Ok, Err, Option, Result, ◌==◌, int_le}
+use Rattle.std.specs.Prelude.{ℕ, ◌-◌, Bool, true, false, ◌&&◌, List, [], ◌∷◌, ◌++◌, length, replicate, ℤ, pos, neg_ℤ, Some, None, Ok, Err, Option, Result, ◌==◌, int_le, if◌then◌else◌}
 use Rattle.std.specs.Str.Parse.{digits_value}
 use Rattle.std.specs.Fmt.{signed_decimal}
 use Rattle.sheet.specs.Fields.{lowest, highest}
@@ -26,11 +26,11 @@ same_text (a ∷ s) (b ∷ t) = a == b && same_text s t
 -- what the characters of a field say, if they say a number: blanks in front are passed, and a minus turns what follows
 unfoldable pub said : List ℕ → ℤ
 said [] = pos 0
-said (b ∷ t) = cond (b == 32) (said t) (cond (b == 45) (neg_ℤ (pos (digits_value 10 t))) (pos (digits_value 10 (b ∷ t))))
+said (b ∷ t) = if b == 32 then said t else if b == 45 then neg_ℤ (pos (digits_value 10 t)) else pos (digits_value 10 (b ∷ t))
 
 -- the number that a field holds: the one whose text in these columns the field is, if there is one
 unfoldable pub held : List ℕ → Option ℤ
-held t = cond (same_text (column (length t) (signed_decimal (said t))) t) (Some (said t)) None
+held t = if same_text (column (length t) (signed_decimal (said t))) t then Some (said t) else None
 
 -- a number is one that a field may hold
 abbrev pub allowed : Field → ℤ → Bool
@@ -39,7 +39,7 @@ allowed f z = int_le (lowest f) z && int_le z (highest f)
 -- a number in place of a field, or why it is refused
 abbrev pub judged : Field → Option ℤ → Result ℤ FieldFault
 judged f None = Err (NoNumber f)
-judged f (Some z) = cond (allowed f z) (Ok z) (Err (OutOfRange f))
+judged f (Some z) = if allowed f z then Ok z else Err (OutOfRange f)
 
 -- what reading the characters of a field answers
 abbrev pub field_read : Field → List ℕ → Result ℤ FieldFault

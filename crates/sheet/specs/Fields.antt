@@ -1,5 +1,5 @@
 -- The fields of a line: their order, their widths and what they may hold. Assumes nothing.
-use Rattle.std.specs.Prelude.{ℕ, ◌+◌, cond, List, [], ◌∷◌, ℤ, pos, negsuc, Some, None, Option, ◌==◌}
+use Rattle.std.specs.Prelude.{ℕ, ◌+◌, List, [], ◌∷◌, ℤ, pos, negsuc, Some, None, Option, ◌==◌, if◌then◌else◌}
 use Rattle.sheet.specs.declared.fields.Field.{Field}
 use Rattle.sheet.specs.declared.fields.Field.TheVariants.{Arguments, Gives, Watched, Locals, StackLimit, Op, Operand, TryBegin, TryEnd, Kind, CatchBegin, CatchEnd}
 use Rattle.sheet.specs.declared.fields.Letter.{Letter}
@@ -59,7 +59,7 @@ letter_byte X = 88
 
 -- the letter that a byte is, if it is one
 abbrev pub letter_of : ℕ → Option Letter
-letter_of b = cond (b == 76) (Some L) (cond (b == 77) (Some M) (cond (b == 73) (Some I) (cond (b == 88) (Some X) None)))
+letter_of b = if b == 76 then Some L else if b == 77 then Some M else if b == 73 then Some I else if b == 88 then Some X else None
 
 -- the fields of a line, from the left
 abbrev pub fields_of : Letter → List Field

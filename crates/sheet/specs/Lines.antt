@@ -1,5 +1,5 @@
 -- What one line says, or why it is refused: its form first, then its fields from the left. Assumes nothing.
-use Rattle.std.specs.Prelude.{ℕ, ◌-◌, cond, List, [], ◌∷◌, length, take, drop, ℤ, pos, Some, None, Ok, Err, Option, Result, ◌==◌, slice_index, slice_index_or, unsigned_abs}
+use Rattle.std.specs.Prelude.{ℕ, ◌-◌, List, [], ◌∷◌, length, take, drop, ℤ, pos, Some, None, Ok, Err, Option, Result, ◌==◌, slice_index, slice_index_or, unsigned_abs, if◌then◌else◌}
 use Rattle.std.specs.Option.{unwrap_or}
 use Rattle.sheet.specs.Columns.{field_read}
 use Rattle.sheet.specs.Fields.{width_of, letter_of, fields_of, widths}
@@ -54,7 +54,7 @@ front t = take (length t - 1) t
 -- the fields of a line with this letter, by what stands behind the letter
 abbrev pub behind_letter : Option Letter → List ℕ → Result (Letter × List ℕ) FormFault
 behind_letter None t = Err UnknownLetter
-behind_letter (Some l) t = cond (last_byte t == 10) (cond (length (front t) == widths (fields_of l)) (Ok (l, front t)) (Err WrongLength)) (Err NoLineFeed)
+behind_letter (Some l) t = if last_byte t == 10 then if length (front t) == widths (fields_of l) then Ok (l, front t) else Err WrongLength else Err NoLineFeed
 
 -- the letter of a line and its fields
 abbrev pub parted : List ℕ → Result (Letter × List ℕ) FormFault

@@ -4,7 +4,7 @@ use Rattle.sheet.specs.declared.faults.LineFault.{LineFault}
 use Rattle.sheet.specs.declared.faults.LineFault.TheVariants.{Form, Field, Order, Count}
 use Rattle.sheet.specs.declared.faults.SheetFault.{SheetFault}
 use Rattle.sheet.specs.declared.faults.SheetFault.TheVariants.{Line, ShortBuffer}
-use Rattle.sheet.specs.declared.faults.Refusal.{Refusal}
+use Rattle.refusal.specs.declared.Refusal.{Refusal}
 
 -- the number of a line's fault
 abbrev pub line_number : LineFault → ℕ

@@ -1,11 +1,12 @@
 ghost use Rattle.std.specs.Prelude.{◌≡◌};
 ghost use Rattle.sheet.specs.Refusals.{line_number, sheet_refusal};
-ghost use Rattle.sheet.specs.declared.faults.LineFault.TheVariants.{Form, Field as OfField, Order};
+ghost use Rattle.sheet.specs.declared.faults.LineFault.TheVariants.{Form, Field as OfField, Order, Count};
 
 use crate::fields::Field;
+use refusal::Refusal;
 
 // Why a field is refused.
-#[derive(Clone, Copy)]
+#[derive(Clone, Copy, Debug, PartialEq, Eq)]
 pub enum FieldFault {
     // It is not the text of a number: blanks, then digits without a leading zero, with a minus ahead of them or not.
     NoNumber(Field),
@@ -14,7 +15,7 @@ pub enum FieldFault {
 }
 
 // Why a line is no letter with its fields and a line feed.
-#[derive(Clone, Copy)]
+#[derive(Clone, Copy, Debug, PartialEq, Eq)]
 pub enum FormFault {
     UnknownLetter,
     NoLineFeed,
@@ -22,7 +23,7 @@ pub enum FormFault {
 }
 
 // Why a line may not stand where it does.
-#[derive(Clone, Copy)]
+#[derive(Clone, Copy, Debug, PartialEq, Eq)]
 pub enum OrderFault {
     LibraryBehindMethod,
     NoMethodYet,
@@ -30,7 +31,7 @@ pub enum OrderFault {
 }
 
 // What a sheet has only so many of.
-#[derive(Clone, Copy)]
+#[derive(Clone, Copy, Debug, PartialEq, Eq)]
 pub enum Counted {
     LibraryMethods,
     OwnMethods,
@@ -39,7 +40,7 @@ pub enum Counted {
 }
 
 // Why a line is refused.
-#[derive(Clone, Copy)]
+#[derive(Clone, Copy, Debug, PartialEq, Eq)]
 pub enum LineFault {
     Form(FormFault),
     Field(FieldFault),
@@ -48,20 +49,12 @@ pub enum LineFault {
 }
 
 // Why a text is not read, or a sheet not written.
-#[derive(Clone, Copy)]
+#[derive(Clone, Copy, Debug, PartialEq, Eq)]
 pub enum SheetFault {
     // The first faulty line of the text, counted from 0, and what is wrong with it.
     Line(usize, LineFault),
     // The buffer is shorter than the text of the sheet.
     ShortBuffer,
-}
-
-// A refusal as programs pass it on: its number and its two places.
-#[derive(Clone, Copy)]
-pub struct Refusal {
-    pub number: u8,
-    pub first: usize,
-    pub second: usize,
 }
 
 impl From<FormFault> for LineFault {
@@ -88,6 +81,14 @@ impl From<OrderFault> for LineFault {
     }
 }
 
+impl From<Counted> for LineFault {
+    ghost from_gives = { λ c r. r ≡ Count c };
+
+    fn from(counted: Counted) -> LineFault {
+        LineFault::Count(counted)
+    }
+}
+
 impl LineFault {
     // The number of its refusal.
     pub fn number(self) -> u8
@@ -102,12 +103,12 @@ impl LineFault {
     }
 }
 
-impl SheetFault {
-    // The number of the refusal and its places: a line and 0, or none.
-    pub fn refusal(self) -> Refusal
-        ensures { result ≡ sheet_refusal self }
-    {
-        match self {
+// The number of the refusal and its places: a line and 0, or none.
+impl From<SheetFault> for Refusal {
+    ghost from_gives = { λ f r. r ≡ sheet_refusal f };
+
+    fn from(fault: SheetFault) -> Refusal {
+        match fault {
             SheetFault::Line(line, fault) => Refusal {
                 number: fault.number(),
                 first: line,

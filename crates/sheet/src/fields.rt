@@ -1,8 +1,12 @@
 ghost use Rattle.std.specs.Prelude.{◌≡◌};
+ghost use Rattle.std.specs.Option.{ok_or};
 ghost use Rattle.sheet.specs.Fields.{width_of, lowest, highest, letter_byte, letter_of, widths, fields_of};
+ghost use Rattle.sheet.specs.declared.faults.FormFault.TheVariants.{UnknownLetter};
+
+use crate::faults::FormFault;
 
 // A field of a line, by what it holds.
-#[derive(Clone, Copy)]
+#[derive(Clone, Copy, Debug, PartialEq, Eq)]
 pub enum Field {
     Arguments,
     Gives,
@@ -58,7 +62,7 @@ impl Field {
 }
 
 // The letter that a line begins with, which says what the line declares.
-#[derive(Clone, Copy)]
+#[derive(Clone, Copy, Debug, PartialEq, Eq)]
 pub enum Letter {
     L,
     M,
@@ -66,18 +70,37 @@ pub enum Letter {
     X,
 }
 
-impl Letter {
-    pub fn byte(self) -> u8
-        ensures { result ≡ letter_byte self }
-    {
-        match self {
+impl From<Letter> for u8 {
+    ghost from_gives = { λ l b. b ≡ letter_byte l };
+
+    fn from(letter: Letter) -> u8 {
+        match letter {
             Letter::L => b'L',
             Letter::M => b'M',
             Letter::I => b'I',
             Letter::X => b'X',
         }
     }
+}
 
+// The letter that a byte is, if it is one.
+impl TryFrom<u8> for Letter {
+    type Error = FormFault;
+
+    ghost try_from_gives = { λ b r. r ≡ ok_or (letter_of b) UnknownLetter };
+
+    fn try_from(byte: u8) -> Result<Letter, FormFault> {
+        match byte {
+            b'L' => Ok(Letter::L),
+            b'M' => Ok(Letter::M),
+            b'I' => Ok(Letter::I),
+            b'X' => Ok(Letter::X),
+            _ => Err(FormFault::UnknownLetter),
+        }
+    }
+}
+
+impl Letter {
     // How many columns the fields of such a line have together.
     pub fn columns(self) -> usize
         ensures { result ≡ widths (fields_of self) }
@@ -86,19 +109,6 @@ impl Letter {
             Letter::L | Letter::I => 18,
             Letter::M => 24,
             Letter::X => 30,
-        }
-    }
-
-    // The letter that a byte is, if it is one.
-    pub fn of(byte: u8) -> Option<Letter>
-        ensures { result ≡ letter_of byte }
-    {
-        match byte {
-            b'L' => Some(Letter::L),
-            b'M' => Some(Letter::M),
-            b'I' => Some(Letter::I),
-            b'X' => Some(Letter::X),
-            _ => None,
         }
     }
 }

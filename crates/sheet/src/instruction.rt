@@ -1,11 +1,10 @@
 ghost use Rattle.std.specs.Prelude.{◌≡◌};
-ghost use Rattle.sheet.specs.declared.instruction.Operand.TheVariants.{Nothing as OperandNothing, Index as OperandIndex};
 ghost use Rattle.sheet.specs.Instructions.{op_of, operand_of, instruction_of};
 
 use crate::op::Op;
 
 // An instruction with what its operand means. Branches lead to locations of one sort `P`.
-#[derive(Clone, Copy)]
+#[derive(Clone, Copy, Debug, PartialEq, Eq)]
 pub enum Instruction<P> {
     LoadConstant(i32),
     LoadArgument(u8),
@@ -28,7 +27,7 @@ pub enum Instruction<P> {
 }
 
 // An operand by itself.
-#[derive(Clone, Copy)]
+#[derive(Clone, Copy, Debug, PartialEq, Eq)]
 pub enum Operand<P> {
     Nothing,
     Number(i32),
@@ -92,51 +91,26 @@ impl<P: Copy> Instruction<P> {
     pub fn of(op: Op, operand: Operand<P>) -> Option<Instruction<P>>
         ensures { result ≡ instruction_of op operand }
     {
-        match operand {
-            Operand::Nothing => alone(op),
-            Operand::Number(number) => match op {
-                Op::LoadConstant => Some(Instruction::LoadConstant(number)),
-                _ => None,
-            },
-            Operand::Index(index) => indexed(op, index),
-            Operand::Location(target) => match op {
-                Op::Branch => Some(Instruction::Branch(target)),
-                Op::BranchTrue => Some(Instruction::BranchTrue(target)),
-                _ => None,
-            },
+        match (op, operand) {
+            (Op::LoadConstant, Operand::Number(number)) => Some(Instruction::LoadConstant(number)),
+            (Op::LoadArgument, Operand::Index(index)) => Some(Instruction::LoadArgument(index)),
+            (Op::LoadLocal, Operand::Index(index)) => Some(Instruction::LoadLocal(index)),
+            (Op::StoreLocal, Operand::Index(index)) => Some(Instruction::StoreLocal(index)),
+            (Op::Pop, Operand::Nothing) => Some(Instruction::Pop),
+            (Op::Add, Operand::Nothing) => Some(Instruction::Add),
+            (Op::Subtract, Operand::Nothing) => Some(Instruction::Subtract),
+            (Op::CompareEqual, Operand::Nothing) => Some(Instruction::CompareEqual),
+            (Op::CompareLess, Operand::Nothing) => Some(Instruction::CompareLess),
+            (Op::Branch, Operand::Location(target)) => Some(Instruction::Branch(target)),
+            (Op::BranchTrue, Operand::Location(target)) => Some(Instruction::BranchTrue(target)),
+            (Op::CallOwn, Operand::Index(index)) => Some(Instruction::CallOwn(index)),
+            (Op::CallLibrary, Operand::Index(index)) => Some(Instruction::CallLibrary(index)),
+            (Op::Return, Operand::Nothing) => Some(Instruction::Return),
+            (Op::Throw, Operand::Nothing) => Some(Instruction::Throw),
+            (Op::Before, Operand::Index(index)) => Some(Instruction::Before(index)),
+            (Op::After, Operand::Index(index)) => Some(Instruction::After(index)),
+            (Op::Except, Operand::Index(index)) => Some(Instruction::Except(index)),
+            _ => None,
         }
-    }
-}
-
-// The instruction of an op without an operand.
-fn alone<P: Copy>(op: Op) -> Option<Instruction<P>>
-    ensures { result ≡ instruction_of op OperandNothing }
-{
-    match op {
-        Op::Pop => Some(Instruction::Pop),
-        Op::Add => Some(Instruction::Add),
-        Op::Subtract => Some(Instruction::Subtract),
-        Op::CompareEqual => Some(Instruction::CompareEqual),
-        Op::CompareLess => Some(Instruction::CompareLess),
-        Op::Return => Some(Instruction::Return),
-        Op::Throw => Some(Instruction::Throw),
-        _ => None,
-    }
-}
-
-// The instruction of an op whose operand is an index.
-fn indexed<P: Copy>(op: Op, index: u8) -> Option<Instruction<P>>
-    ensures { result ≡ instruction_of op (OperandIndex index) }
-{
-    match op {
-        Op::LoadArgument => Some(Instruction::LoadArgument(index)),
-        Op::LoadLocal => Some(Instruction::LoadLocal(index)),
-        Op::StoreLocal => Some(Instruction::StoreLocal(index)),
-        Op::CallOwn => Some(Instruction::CallOwn(index)),
-        Op::CallLibrary => Some(Instruction::CallLibrary(index)),
-        Op::Before => Some(Instruction::Before(index)),
-        Op::After => Some(Instruction::After(index)),
-        Op::Except => Some(Instruction::Except(index)),
-        _ => None,
     }
 }

@@ -6,3 +6,4 @@ pub mod instruction;
 pub mod location;
 pub mod op;
 pub mod records;
+pub mod unknown;

@@ -2,7 +2,7 @@ ghost use Rattle.std.specs.Prelude.{◌≡◌};
 
 // A location of the sheet as it was handed in: the number of an instruction within its method.
 // Locations after weaving have a type of their own, so that one is never taken for the other.
-#[derive(Clone, Copy)]
+#[derive(Clone, Copy, Debug, PartialEq, Eq)]
 pub struct PlainLocation {
     number: u16,
 }

@@ -1,8 +1,12 @@
 ghost use Rattle.std.specs.Prelude.{◌≡◌};
+ghost use Rattle.std.specs.Option.{ok_or};
 ghost use Rattle.sheet.specs.Ops.{op_number, op_numbered, op_row, simple_row, call_row, question_row};
+ghost use Rattle.sheet.specs.Numbers.{unknown};
+
+use crate::unknown::UnknownNumber;
 
 // What an instruction does.
-#[derive(Clone, Copy)]
+#[derive(Clone, Copy, Debug, PartialEq, Eq)]
 pub enum Op {
     LoadConstant = 1,
     LoadArgument = 2,
@@ -25,7 +29,7 @@ pub enum Op {
 }
 
 // What the operand of an instruction means.
-#[derive(Clone, Copy)]
+#[derive(Clone, Copy, Debug, PartialEq, Eq)]
 pub enum OperandUse {
     Unused,
     Number,
@@ -39,7 +43,7 @@ pub enum OperandUse {
 
 // How many values an instruction takes from the stack or leaves there. Where the operand names a method, the
 // arguments and the value of that method count.
-#[derive(Clone, Copy)]
+#[derive(Clone, Copy, Debug, PartialEq, Eq)]
 pub enum Amount {
     Fixed(u8),
     Arguments,
@@ -51,7 +55,7 @@ pub enum Amount {
 }
 
 // One row of the table of ops.
-#[derive(Clone, Copy)]
+#[derive(Clone, Copy, Debug, PartialEq, Eq)]
 pub struct OpRow {
     pub number: u8,
     pub operand: OperandUse,
@@ -100,40 +104,46 @@ fn question(number: u8, takes: Amount) -> OpRow
     }
 }
 
-impl Op {
-    pub fn number(self) -> u8
-        ensures { result ≡ op_number self }
-    {
-        self as u8
-    }
+impl From<Op> for u8 {
+    ghost from_gives = { λ op n. n ≡ op_number op };
 
-    // The op of this number, if there is one.
-    pub fn numbered(number: u8) -> Option<Op>
-        ensures { result ≡ op_numbered number }
-    {
+    fn from(op: Op) -> u8 {
+        op as u8
+    }
+}
+
+// The op of a number, if there is one.
+impl TryFrom<u8> for Op {
+    type Error = UnknownNumber;
+
+    ghost try_from_gives = { λ n r. r ≡ ok_or (op_numbered n) (unknown n) };
+
+    fn try_from(number: u8) -> Result<Op, UnknownNumber> {
         match number {
-            1 => Some(Op::LoadConstant),
-            2 => Some(Op::LoadArgument),
-            3 => Some(Op::LoadLocal),
-            4 => Some(Op::StoreLocal),
-            5 => Some(Op::Pop),
-            6 => Some(Op::Add),
-            7 => Some(Op::Subtract),
-            8 => Some(Op::CompareEqual),
-            9 => Some(Op::CompareLess),
-            10 => Some(Op::Branch),
-            11 => Some(Op::BranchTrue),
-            12 => Some(Op::CallOwn),
-            13 => Some(Op::CallLibrary),
-            14 => Some(Op::Return),
-            15 => Some(Op::Throw),
-            16 => Some(Op::Before),
-            17 => Some(Op::After),
-            18 => Some(Op::Except),
-            _ => None,
+            1 => Ok(Op::LoadConstant),
+            2 => Ok(Op::LoadArgument),
+            3 => Ok(Op::LoadLocal),
+            4 => Ok(Op::StoreLocal),
+            5 => Ok(Op::Pop),
+            6 => Ok(Op::Add),
+            7 => Ok(Op::Subtract),
+            8 => Ok(Op::CompareEqual),
+            9 => Ok(Op::CompareLess),
+            10 => Ok(Op::Branch),
+            11 => Ok(Op::BranchTrue),
+            12 => Ok(Op::CallOwn),
+            13 => Ok(Op::CallLibrary),
+            14 => Ok(Op::Return),
+            15 => Ok(Op::Throw),
+            16 => Ok(Op::Before),
+            17 => Ok(Op::After),
+            18 => Ok(Op::Except),
+            _ => Err(UnknownNumber { number }),
         }
     }
+}
 
+impl Op {
     // The row of the op in the table.
     pub fn row(self) -> OpRow
         ensures { result ≡ op_row self }

@@ -1,11 +1,13 @@
 ghost use Rattle.std.specs.Prelude.{◌≡◌};
-ghost use Rattle.sheet.specs.Numbers.{kind_number, kind_numbered};
+ghost use Rattle.std.specs.Option.{ok_or};
+ghost use Rattle.sheet.specs.Numbers.{kind_number, kind_numbered, unknown};
 
 use crate::location::PlainLocation;
 use crate::op::Op;
+use crate::unknown::UnknownNumber;
 
 // A library method: what it takes, whether it gives a value, and whether calls of it are watched.
-#[derive(Clone, Copy)]
+#[derive(Clone, Copy, Debug, Default, PartialEq, Eq)]
 pub struct Signature {
     pub arguments: u8,
     pub gives: bool,
@@ -13,7 +15,7 @@ pub struct Signature {
 }
 
 // An own method without its instructions and handlers.
-#[derive(Clone, Copy)]
+#[derive(Clone, Copy, Debug, Default, PartialEq, Eq)]
 pub struct Shape {
     pub arguments: u8,
     pub gives: bool,
@@ -22,43 +24,44 @@ pub struct Shape {
 }
 
 // An instruction as the text has it: any operand goes, and the check says what it means.
-#[derive(Clone, Copy)]
+#[derive(Clone, Copy, Debug, PartialEq, Eq)]
 pub struct ReadInstruction {
     pub op: Op,
     pub operand: i32,
 }
 
 // Which exceptions a handler takes.
-#[derive(Clone, Copy)]
+#[derive(Clone, Copy, Debug, PartialEq, Eq)]
 pub enum Kind {
-    Every,
-    SecurityOnly,
+    Every = 1,
+    SecurityOnly = 2,
 }
 
-impl Kind {
-    pub fn number(self) -> u8
-        ensures { result ≡ kind_number self }
-    {
-        match self {
-            Kind::Every => 1,
-            Kind::SecurityOnly => 2,
-        }
-    }
+impl From<Kind> for u8 {
+    ghost from_gives = { λ k n. n ≡ kind_number k };
 
-    // The kind of this number, if there is one.
-    pub fn numbered(number: u8) -> Option<Kind>
-        ensures { result ≡ kind_numbered number }
-    {
+    fn from(kind: Kind) -> u8 {
+        kind as u8
+    }
+}
+
+// The kind of a number, if there is one.
+impl TryFrom<u8> for Kind {
+    type Error = UnknownNumber;
+
+    ghost try_from_gives = { λ n r. r ≡ ok_or (kind_numbered n) (unknown n) };
+
+    fn try_from(number: u8) -> Result<Kind, UnknownNumber> {
         match number {
-            1 => Some(Kind::Every),
-            2 => Some(Kind::SecurityOnly),
-            _ => None,
+            1 => Ok(Kind::Every),
+            2 => Ok(Kind::SecurityOnly),
+            _ => Err(UnknownNumber { number }),
         }
     }
 }
 
 // A handler, with locations of one sort `P`. A range has its first location and the one behind its last.
-#[derive(Clone, Copy)]
+#[derive(Clone, Copy, Debug, PartialEq, Eq)]
 pub struct Handler<P> {
     pub try_begin: P,
     pub try_end: P,
@@ -68,7 +71,7 @@ pub struct Handler<P> {
 }
 
 // What one line of a text says.
-#[derive(Clone, Copy)]
+#[derive(Clone, Copy, Debug, PartialEq, Eq)]
 pub enum Line {
     Library(Signature),
     Method(Shape),

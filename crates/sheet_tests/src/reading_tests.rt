@@ -1,4 +1,5 @@
 use crate::texts::{HANDLER, INSTRUCTION, largest, one_method};
+use refusal::Refusal;
 use sheet::faults::SheetFault;
 use sheet_text::read_sheet::ReadSheet;
 use std::test::Fail;
@@ -8,7 +9,7 @@ fn check_refused(read: Result<(), SheetFault>, number: u8, line: usize) -> Resul
     match read {
         Ok(()) => Err(Fail::new("the text reads")),
         Err(fault) => {
-            let refusal = fault.refusal();
+            let refusal = Refusal::from(fault);
             let found = (refusal.number, refusal.first, refusal.second);
             if found != (number, line, 0) {
                 return Err(Fail::new(format_args!("{found:?}, and not {number} at {line}, 0")));

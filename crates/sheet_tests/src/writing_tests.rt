@@ -1,4 +1,5 @@
 use crate::texts::largest;
+use refusal::Refusal;
 use sheet_text::read_sheet::ReadSheet;
 use std::alloc::Global;
 use std::test::Fail;
@@ -32,7 +33,7 @@ fn a_short_buffer_stays(rt: HostRuntime) -> Result<(), Fail> {
     let mut buffer = vec![in heap; b'?'; 50207]?;
     match sheet.write(buffer.as_mut_slice()) {
         Ok(_) => return Err(Fail::new("the sheet is written")),
-        Err(fault) => assert_eq!(rt; fault.refusal().number, 5),
+        Err(fault) => assert_eq!(rt; Refusal::from(fault).number, 5),
     }
     assert!(rt; buffer == vec![in heap; b'?'; 50207]?);
     Ok(())

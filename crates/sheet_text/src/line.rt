@@ -19,9 +19,7 @@ fn parts(line: &[u8]) -> Result<(Letter, &[u8]), FormFault>
     let [first, rest @ ..] = line else {
         return Err(FormFault::UnknownLetter);
     };
-    let Some(letter) = Letter::of(*first) else {
-        return Err(FormFault::UnknownLetter);
-    };
+    let letter = Letter::try_from(*first)?;
     let [fields @ .., b'\n'] = rest else {
         return Err(FormFault::NoLineFeed);
     };
@@ -81,7 +79,7 @@ fn read_instruction(fields: &[u8]) -> Result<Line, FieldFault>
     let (number, rest) = next(fields, Field::Op)?;
     let (operand, _) = next(rest, Field::Operand)?;
     // The field holds 1 to 18, and each of these has its op.
-    let op = Op::numbered(number as u8).unwrap_or(Op::LoadConstant);
+    let op = Op::try_from(number as u8).unwrap_or(Op::LoadConstant);
     Ok(Line::Instruction(ReadInstruction { op, operand }))
 }
 
@@ -106,7 +104,7 @@ fn read_handler(fields: &[u8]) -> Result<Line, FieldFault>
     let (catch_begin, rest) = next_location(rest, Field::CatchBegin)?;
     let (catch_end, _) = next_location(rest, Field::CatchEnd)?;
     // The field holds 1 or 2, and each of these has its kind.
-    let kind = Kind::numbered(number as u8).unwrap_or(Kind::Every);
+    let kind = Kind::try_from(number as u8).unwrap_or(Kind::Every);
     Ok(Line::Handler(Handler {
         try_begin,
         try_end,

@@ -131,7 +131,7 @@ impl Piece for ReadInstruction {
     ghost text = { instruction_text };
 
     fn put(&self, out: &mut [u8], at: usize) -> usize {
-        put_instruction(u16::from(self.op.number()), self.operand, out, at)
+        put_instruction(u16::from(u8::from(self.op)), self.operand, out, at)
     }
 }
 
@@ -142,7 +142,7 @@ impl Piece for Handler<PlainLocation> {
         let fields = [
             Count(self.try_begin.number()),
             Count(self.try_end.number()),
-            Count(u16::from(self.kind.number())),
+            Count(u16::from(u8::from(self.kind))),
             Count(self.catch_begin.number()),
             Count(self.catch_end.number()),
         ];

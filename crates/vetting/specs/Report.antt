@@ -4,7 +4,7 @@ use Rattle.sheet.specs.Columns.{column}
 use Rattle.sheet.specs.Reading.{TextSheet}
 use Rattle.sheet.specs.Refusals.{sheet_refusal}
 use Rattle.sheet.specs.View.{empty_sheet}
-use Rattle.sheet.specs.declared.faults.Refusal.{Refusal}
+use Rattle.refusal.specs.declared.Refusal.{Refusal}
 use Rattle.sheet.specs.declared.faults.SheetFault.{SheetFault}
 use Rattle.check_rules.specs.Check.{CheckedForm, checked}
 use Rattle.check_rules.specs.CheckRefusals.{check_refusal}

@@ -2,6 +2,7 @@
 use crate::mnemonic::{Written, mnemonic};
 use crate::words::Amount;
 use check_rules::faults::{CheckFault, MethodFault};
+use refusal::Refusal;
 use sheet::location::PlainLocation;
 use sheet::op::OperandUse;
 use sheet::records::{Handler, ReadInstruction, Shape};
@@ -22,7 +23,7 @@ impl<'a> CheckExplanation<'a> {
 
 impl fmt::Display for CheckExplanation<'_> {
     fn fmt<W: fmt::Write>(&self, f: &mut fmt::Formatter<W>) -> fmt::Result {
-        let refusal = self.fault.refusal().number;
+        let refusal = Refusal::from(self.fault).number;
         writeln!(
             f,
             "The sheet reads, but does not pass the check: refusal {refusal}."

@@ -97,7 +97,7 @@ fn write_length<W: fmt::Write>(f: &mut fmt::Formatter<W>, line: &[u8]) -> fmt::R
     let [first, ..] = line else {
         return Ok(());
     };
-    let Some(letter) = Letter::of(*first) else {
+    let Ok(letter) = Letter::try_from(*first) else {
         return Ok(());
     };
     let name = char::from(*first);

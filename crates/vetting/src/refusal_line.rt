@@ -3,7 +3,7 @@ ghost use Rattle.std.specs.Prelude.{◌≡◌, IfOk, string_bytes, decimal};
 ghost use Rattle.sheet.specs.Columns.{column};
 ghost use Rattle.vetting.specs.Report.{refusal_line};
 
-use sheet::faults::Refusal;
+use refusal::Refusal;
 use std::alloc::{AllocError, Global};
 
 // A number at the right end of six columns, or of as many as it has digits if those are more.

@@ -15,6 +15,7 @@ use crate::refusal_line::refusal_line;
 use crate::summary::Summary;
 use check_rules::faults::CheckFault;
 use checking::checked::CheckedSheet;
+use refusal::Refusal;
 use sheet::faults::SheetFault;
 use sheet_text::read_sheet::ReadSheet;
 use std::alloc::{AllocError, Global};
@@ -58,7 +59,7 @@ fn accepted(heap: Global, sheet: &ReadSheet) -> Result<String, AllocError>
 fn unchecked(heap: Global, sheet: &ReadSheet, fault: CheckFault) -> Result<String, AllocError>
     ensures { IfOk result (λ s. Begins (refusal_line (check_refusal fault)) (string_bytes s)) }
 {
-    let line = refusal_line(heap, fault.refusal())?;
+    let line = refusal_line(heap, Refusal::from(fault))?;
     let explanation = CheckExplanation::new(sheet.contents(), fault);
     let rest = format!(in heap; "{explanation}")?;
     format!(in heap; "{line}{rest}")
@@ -67,7 +68,7 @@ fn unchecked(heap: Global, sheet: &ReadSheet, fault: CheckFault) -> Result<Strin
 fn refused(heap: Global, text: &[u8], fault: SheetFault) -> Result<String, AllocError>
     ensures { IfOk result (λ s. Begins (refusal_line (sheet_refusal fault)) (string_bytes s)) }
 {
-    let line = refusal_line(heap, fault.refusal())?;
+    let line = refusal_line(heap, Refusal::from(fault))?;
     let explanation = explained(heap, text, fault)?;
     format!(in heap; "{line}{explanation}")
 }
