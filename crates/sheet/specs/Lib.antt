@@ -2,6 +2,7 @@ pub mod Maps
 pub mod Ops
 pub mod Instructions
 pub mod Numbers
+pub mod Names
 pub mod Fields
 pub mod Refusals
 pub mod Columns

@@ -1,9 +1,11 @@
-ghost use Rattle.std.specs.Prelude.{◌≡◌};
+ghost use Rattle.std.specs.Prelude.{◌≡◌, Some};
 ghost use Rattle.std.specs.Option.{ok_or};
 ghost use Rattle.sheet.specs.Fields.{width_of, lowest, highest, letter_byte, letter_of, widths, fields_of};
+ghost use Rattle.sheet.specs.Names.{field_name};
 ghost use Rattle.sheet.specs.declared.faults.FormFault.TheVariants.{UnknownLetter};
 
 use crate::faults::FormFault;
+use std::fmt;
 
 // A field of a line, by what it holds.
 #[derive(Clone, Copy, Debug, PartialEq, Eq)]
@@ -58,6 +60,28 @@ impl Field {
             Field::Kind => 2,
             Field::TryBegin | Field::TryEnd | Field::CatchBegin | Field::CatchEnd => 2048,
         }
+    }
+}
+
+// Its name, as people write it.
+impl fmt::Display for Field {
+    ghost output = { λ x. Some (field_name x) };
+
+    fn fmt<W: fmt::Write>(&self, f: &mut fmt::Formatter<W>) -> fmt::Result {
+        f.write_str(match self {
+            Field::Arguments => "arguments",
+            Field::Gives => "gives",
+            Field::Watched => "watched",
+            Field::Locals => "locals",
+            Field::StackLimit => "stack limit",
+            Field::Op => "op",
+            Field::Operand => "operand",
+            Field::TryBegin => "try begin",
+            Field::TryEnd => "try end",
+            Field::Kind => "kind",
+            Field::CatchBegin => "catch begin",
+            Field::CatchEnd => "catch end",
+        })
     }
 }
 

@@ -1,9 +1,11 @@
-ghost use Rattle.std.specs.Prelude.{◌≡◌};
+ghost use Rattle.std.specs.Prelude.{◌≡◌, Some};
 ghost use Rattle.std.specs.Option.{ok_or};
 ghost use Rattle.sheet.specs.Ops.{op_number, op_numbered, op_row, simple_row, call_row, question_row};
 ghost use Rattle.sheet.specs.Numbers.{unknown};
+ghost use Rattle.sheet.specs.Names.{op_name};
 
 use crate::unknown::UnknownNumber;
+use std::fmt;
 
 // What an instruction does.
 #[derive(Clone, Copy, Debug, PartialEq, Eq)]
@@ -178,5 +180,33 @@ impl Op {
             Op::After => question(17, Amount::ArgumentsAndGives),
             Op::Except => question(18, Amount::ArgumentsAndOne),
         }
+    }
+}
+
+// Its name, as people write it.
+impl fmt::Display for Op {
+    ghost output = { λ op. Some (op_name op) };
+
+    fn fmt<W: fmt::Write>(&self, f: &mut fmt::Formatter<W>) -> fmt::Result {
+        f.write_str(match self {
+            Op::LoadConstant => "ldc",
+            Op::LoadArgument => "ldarg",
+            Op::LoadLocal => "ldloc",
+            Op::StoreLocal => "stloc",
+            Op::Pop => "pop",
+            Op::Add => "add",
+            Op::Subtract => "sub",
+            Op::CompareEqual => "ceq",
+            Op::CompareLess => "clt",
+            Op::Branch => "br",
+            Op::BranchTrue => "brtrue",
+            Op::CallOwn => "call",
+            Op::CallLibrary => "lib",
+            Op::Return => "ret",
+            Op::Throw => "throw",
+            Op::Before => "before",
+            Op::After => "after",
+            Op::Except => "except",
+        })
     }
 }
