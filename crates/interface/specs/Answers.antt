@@ -1,7 +1,8 @@
 -- The numbers of the kinds of questions and of the answers of libraries and policies. Assumes nothing.
-use Rattle.std.specs.Prelude.{ℕ, Bool, cond, ℤ, pos, Some, None, Option, ◌==◌}
+use Rattle.std.specs.Prelude.{ℕ, Bool, if◌then◌else◌, List, ◌++◌, ℤ, pos, Some, None, Option, ◌==◌, codes, decimal}
 use Rattle.interface.specs.declared.answers.QuestionKind.{QuestionKind}
 use Rattle.interface.specs.declared.answers.QuestionKind.TheVariants.{Before, After, Except}
+use Rattle.interface.specs.declared.answers.UnknownKind.{UnknownKind}
 use Rattle.interface.specs.declared.answers.LibraryAnswer.{LibraryAnswer}
 use Rattle.interface.specs.declared.answers.LibraryAnswer.TheVariants.{Return, Raise}
 use Rattle.interface.specs.declared.answers.PolicyAnswer.{PolicyAnswer}
@@ -15,7 +16,11 @@ kind_number Except = 4
 
 -- the kind of a number, if there is one
 abbrev pub kind_numbered : ℕ → Option QuestionKind
-kind_numbered n = cond (n == 2) (Some Before) (cond (n == 3) (Some After) (cond (n == 4) (Some Except) None))
+kind_numbered n = if n == 2 then Some Before else if n == 3 then Some After else if n == 4 then Some Except else None
+
+-- what is printed where no kind has a number
+abbrev pub unknown_text : UnknownKind → List ℕ
+unknown_text e = codes "no kind of question has number " ++ decimal e.0
 
 -- 0 for a return, 1 for a raise
 abbrev pub library_flag : LibraryAnswer → ℕ
@@ -24,7 +29,7 @@ library_flag (Raise c) = 1
 
 -- the number recorded of a library's answer; where the method gives no value, a return is recorded as 0
 abbrev pub library_number : Bool → LibraryAnswer → ℤ
-library_number gives (Return n) = cond gives n (pos 0)
+library_number gives (Return n) = if gives then n else pos 0
 library_number gives (Raise c) = c
 
 -- 0 for a pass, 1 for a stop

@@ -11,38 +11,59 @@ pub record Equal {Rule State : Type 0} (rule₁ rule₂ : Rule) (state₁ state�
   pub rules : rule₁ ≡ rule₂
   pub states : state₁ ≡ state₂
 
+-- the answers of a step to some inputs in order
+abbrev pub answers : {State In Out : Type 0} → (State → In → Out × State) → State → List In → List Out
+answers step s [] = []
+answers step s (x ∷ xs) = (step s x).0 ∷ answers step (step s x).1 xs
+
+-- the state after some inputs in order
+abbrev pub after : {State In Out : Type 0} → (State → In → Out × State) → State → List In → State
+after step s [] = s
+after step s (x ∷ xs) = after step (step s x).1 xs
+
+-- equal parties give the same answers to every list of inputs and are equal after it
+abbrev pub StayEqual : {Rule State In Out : Type 0} → (Rule → State → In → Out × State) → Type 0
+StayEqual {Rule} {State} {In} step =
+    (rule₁ rule₂ : Rule) (s₁ s₂ : State) (xs : List In) → Equal rule₁ rule₂ s₁ s₂
+    → (answers (step rule₁) s₁ xs ≡ answers (step rule₂) s₂ xs)
+    × Equal rule₁ rule₂ (after (step rule₁) s₁ xs) (after (step rule₂) s₂ xs)
+
 -- a call: a method and its values
 abbrev pub Call : Type 0
 Call = ℕ × List Value
 
+-- what a rule does at a call
+abbrev pub library_step : {State : Type 0} → LibraryRule State → State → Call → LibraryAnswer × State
+library_step rule s call = rule s call.0 call.1
+
 -- the answers of a rule to some calls in order
 abbrev pub library_answers : {State : Type 0} → LibraryRule State → State → List Call → List LibraryAnswer
-library_answers rule s [] = []
-library_answers rule s ((m, vs) ∷ calls) = (rule s m vs).0 ∷ library_answers rule (rule s m vs).1 calls
+library_answers rule = answers (library_step rule)
 
 -- the state after some calls in order
 abbrev pub library_after : {State : Type 0} → LibraryRule State → State → List Call → State
-library_after rule s [] = s
-library_after rule s ((m, vs) ∷ calls) = library_after rule (rule s m vs).1 calls
+library_after rule = after (library_step rule)
 
 -- equal libraries give the same answers to every list of calls and are equal after it
 abbrev pub LibrariesStayEqual : Type 0 → Type 0
-LibrariesStayEqual State = (rule₁ rule₂ : LibraryRule State) (s₁ s₂ : State) (calls : List Call) → Equal rule₁ rule₂ s₁ s₂ → (library_answers rule₁ s₁ calls ≡ library_answers rule₂ s₂ calls) × Equal rule₁ rule₂ (library_after rule₁ s₁ calls) (library_after rule₂ s₂ calls)
+LibrariesStayEqual State = StayEqual (library_step {State = State})
 
 -- a question: its kind, the method and the values
 abbrev pub Question : Type 0
 Question = QuestionKind × (ℕ × List Value)
 
+-- what a rule does at a question
+abbrev pub policy_step : {State : Type 0} → PolicyRule State → State → Question → PolicyAnswer × State
+policy_step rule s question = rule s question.0 question.1.0 question.1.1
+
 -- the answers of a rule to some questions in order
 abbrev pub policy_answers : {State : Type 0} → PolicyRule State → State → List Question → List PolicyAnswer
-policy_answers rule s [] = []
-policy_answers rule s ((k, (m, vs)) ∷ questions) = (rule s k m vs).0 ∷ policy_answers rule (rule s k m vs).1 questions
+policy_answers rule = answers (policy_step rule)
 
 -- the state after some questions in order
 abbrev pub policy_after : {State : Type 0} → PolicyRule State → State → List Question → State
-policy_after rule s [] = s
-policy_after rule s ((k, (m, vs)) ∷ questions) = policy_after rule (rule s k m vs).1 questions
+policy_after rule = after (policy_step rule)
 
 -- equal policies give the same answers to every list of questions and are equal after it
 abbrev pub PoliciesStayEqual : Type 0 → Type 0
-PoliciesStayEqual State = (rule₁ rule₂ : PolicyRule State) (s₁ s₂ : State) (questions : List Question) → Equal rule₁ rule₂ s₁ s₂ → (policy_answers rule₁ s₁ questions ≡ policy_answers rule₂ s₂ questions) × Equal rule₁ rule₂ (policy_after rule₁ s₁ questions) (policy_after rule₂ s₂ questions)
+PoliciesStayEqual State = StayEqual (policy_step {State = State})

@@ -1,36 +1,57 @@
-ghost use Rattle.std.specs.Prelude.{◌≡◌};
-ghost use Rattle.interface.specs.Answers.{kind_number, kind_numbered, library_flag, library_number, policy_flag, policy_number};
+ghost use Rattle.std.specs.Prelude.{◌≡◌, Some, ok_or};
+ghost use Rattle.interface.specs.Answers.{kind_number, kind_numbered, unknown_text};
+ghost use Rattle.interface.specs.Answers.{library_flag, library_number, policy_flag, policy_number};
+
+use std::error::Error;
+use std::fmt;
 
 // When a question is put: ahead of a call, after its return, or after it raised an exception.
-#[derive(Clone, Copy)]
+#[derive(Clone, Copy, Debug, PartialEq, Eq)]
 pub enum QuestionKind {
     Before = 2,
     After = 3,
     Except = 4,
 }
 
-impl QuestionKind {
-    pub fn number(self) -> u8
-        ensures { result ≡ kind_number self }
-    {
-        self as u8
-    }
+// A number that no kind of question has.
+#[derive(Clone, Copy, Debug, PartialEq, Eq)]
+pub struct UnknownKind(pub u8);
 
-    // The kind of this number, if there is one.
-    pub fn numbered(number: u8) -> Option<QuestionKind>
-        ensures { result ≡ kind_numbered number }
-    {
+impl From<QuestionKind> for u8 {
+    ghost from_gives = { λ kind n. n ≡ kind_number kind };
+
+    fn from(kind: QuestionKind) -> u8 {
+        kind as u8
+    }
+}
+
+impl TryFrom<u8> for QuestionKind {
+    type Error = UnknownKind;
+
+    ghost try_from_gives = { λ n kind. kind ≡ ok_or (kind_numbered n) (record { 0 = n }) };
+
+    fn try_from(number: u8) -> Result<QuestionKind, UnknownKind> {
         match number {
-            2 => Some(QuestionKind::Before),
-            3 => Some(QuestionKind::After),
-            4 => Some(QuestionKind::Except),
-            _ => None,
+            2 => Ok(QuestionKind::Before),
+            3 => Ok(QuestionKind::After),
+            4 => Ok(QuestionKind::Except),
+            _ => Err(UnknownKind(number)),
         }
     }
 }
 
-// What a library answers to a call.
-#[derive(Clone, Copy)]
+impl fmt::Display for UnknownKind {
+    ghost output = { λ e. Some (unknown_text e) };
+
+    fn fmt<W: fmt::Write>(&self, f: &mut fmt::Formatter<W>) -> fmt::Result {
+        write!(f, "no kind of question has number {}", self.0)
+    }
+}
+
+impl Error for UnknownKind {}
+
+// What a library answers to a call. By a rule of the project, answers are enums whose cases carry the code: no Result.
+#[derive(Clone, Copy, Debug, PartialEq, Eq)]
 pub enum LibraryAnswer {
     Return(i32),
     Raise(i32),
@@ -58,8 +79,8 @@ impl LibraryAnswer {
     }
 }
 
-// What a policy answers to a question.
-#[derive(Clone, Copy)]
+// What a policy answers to a question. By the same rule, this is no Option.
+#[derive(Clone, Copy, Debug, PartialEq, Eq)]
 pub enum PolicyAnswer {
     Pass,
     Stop(i32),

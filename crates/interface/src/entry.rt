@@ -1,11 +1,12 @@
 ghost use Rattle.std.specs.Prelude.{◌≡◌};
-ghost use Rattle.interface.specs.Entries.{value_at, first_seven, library_entry, question_entry};
+ghost use Rattle.interface.specs.Entries.{first_seven, entry_of, library_entry, question_entry};
 
 use crate::answers::{LibraryAnswer, PolicyAnswer, QuestionKind};
 use crate::value::Value;
 
 // One line of the log: a call of a library or a question to a policy, with its answer.
-#[derive(Clone, Copy)]
+// The log's format has numbers for the kind, the flag and the answer, so these are no enums.
+#[derive(Clone, Copy, Debug, PartialEq, Eq)]
 pub struct Entry {
     // 1 for a call of a library, else the number of the question's kind.
     pub kind: u8,
@@ -20,29 +21,14 @@ pub struct Entry {
     pub number: i32,
 }
 
-// The value at a place, or the number 0 behind the last.
-fn value_at(values: &[Value], place: usize) -> Value
-    ensures { result ≡ value_at values.now place }
-{
-    if place < values.len() {
-        values[place]
-    } else {
-        Value::Number(0)
-    }
-}
-
+// Unused places hold the number 0.
 fn first_seven(values: &[Value]) -> [Value; 7]
     ensures { result ≡ first_seven values.now }
 {
-    [
-        value_at(values, 0),
-        value_at(values, 1),
-        value_at(values, 2),
-        value_at(values, 3),
-        value_at(values, 4),
-        value_at(values, 5),
-        value_at(values, 6),
-    ]
+    let mut first = [Value::Number(0); 7];
+    let count = values.len().min(7);
+    first[..count].copy_from_slice(&values[..count]);
+    first
 }
 
 impl Entry {
@@ -50,27 +36,26 @@ impl Entry {
     pub fn library(method: u8, values: &[Value], answer: LibraryAnswer, gives: bool) -> Entry
         ensures { result ≡ library_entry method values.now answer gives }
     {
-        Entry {
-            kind: 1,
-            method,
-            count: values.len(),
-            values: first_seven(values),
-            flag: answer.flag(),
-            number: answer.number(gives),
-        }
+        Entry::new(1, method, values, answer.flag(), answer.number(gives))
     }
 
     // The entry of a question.
     pub fn question(kind: QuestionKind, method: u8, values: &[Value], answer: PolicyAnswer) -> Entry
         ensures { result ≡ question_entry kind method values.now answer }
     {
+        Entry::new(kind.into(), method, values, answer.flag(), answer.number())
+    }
+
+    fn new(kind: u8, method: u8, values: &[Value], flag: u8, number: i32) -> Entry
+        ensures { result ≡ entry_of kind method values.now flag number }
+    {
         Entry {
-            kind: kind.number(),
+            kind,
             method,
             count: values.len(),
             values: first_seven(values),
-            flag: answer.flag(),
-            number: answer.number(),
+            flag,
+            number,
         }
     }
 }

@@ -2,7 +2,7 @@ ghost use Rattle.std.specs.Prelude.{◌≡◌};
 ghost use Rattle.interface.specs.Values.{number_of};
 
 // What a stack cell, an argument or a result holds. A value keeps its sort wherever it is copied.
-#[derive(Clone, Copy)]
+#[derive(Clone, Copy, Debug, PartialEq, Eq)]
 pub enum Value {
     Number(i32),
     Exception(i32),
@@ -15,9 +15,7 @@ impl Value {
         ensures { result ≡ number_of self }
     {
         match self {
-            Value::Number(n) => n,
-            Value::Exception(n) => n,
-            Value::SecurityException(n) => n,
+            Value::Number(n) | Value::Exception(n) | Value::SecurityException(n) => n,
         }
     }
 }

@@ -8,11 +8,10 @@ use Rattle.interface.specs.declared.answers.LibraryAnswer.TheVariants.{Return, R
 use Rattle.std.proofs.lemmas.Int.{ints}
 use Rattle.std.proofs.lemmas.Bool.{cases_Bool, and_parts, cond_both, ltb-true, or_cases, both_ways}
 use Rattle.libraries.specs.Arguments.{Step, done, same, with_one, with_two}
-use Rattle.libraries.specs.Index.{below_all, ordered, lookup, has_key, entered, struck, found, find_key, enter_key, strike_key, index_rule}
+use Rattle.libraries.specs.Index.{bound, below_all, ordered, lookup, has_key, entered, struck, found, find_key, enter_key, strike_key, index_rule}
 use Rattle.libraries.specs.IndexLaws.{find_answer, OthersAsBefore, FindAfterEnter, FindAfterStrike, Canonical, StaysCanonical, SameValuesSameState}
 use Rattle.libraries.specs.declared.binding.Binding.{Binding}
 use Rattle.libraries.proofs.Answered.{no_return, same_is}
-use Rattle.libraries.proofs.Positions.{same_binding}
 use Rattle.libraries.proofs.Sorted.{below, equal, above, order, none_below, below_more, ordered_entered, ordered_struck}
 
 same_self : (k : ℤ) → same k k ≡ true
@@ -167,8 +166,11 @@ same_rest b bs cs lb lc h k =
     (λ n. rw n at (h k))
     (cases_Bool (same b.key k))
 
+same_binding : (k j v w : ℤ) → k ≡ j → v ≡ w → bound k v ≡ bound j w
+same_binding k j v w e f = cc
+
 same_first : (b c : Binding) → b.key ≡ c.key → b.value ≡ c.value → b ≡ c
-same_first b c e f = same_binding c.key b.key c.value b.value e f
+same_first b c e f = same_binding b.key c.key b.value c.value e f
 
 pub same_values_same_state : SameValuesSameState
 same_values_same_state [] [] ob oc h = refl

@@ -1,16 +1,19 @@
--- Taking two codes out of a page by a rotation.
-use Rattle.std.proofs.Common.{◌≡◌, ℕ, ◌+◌, ◌-◌, ◌<◌, List, length, get_or, set, ℤ, pos, arith, rules}
-use borrow.Rule.Slice.PartMut.{put_mid}
-use Rattle.std.proofs.lemmas.List.{length-set, get_or-set_same, get_or-set_other, ext_get_or, places}
-use Rattle.std.proofs.lemmas.Bool.{cases_eq}
+-- Taking two codes out of a page.
+use Rattle.std.proofs.Common.{◌≡◌, ℕ, ◌+◌, ◌-◌, ◌<◌, List, [], ◌∷◌, ◌++◌, length, take, drop, replicate, ℤ, pos, sym, ap, ◌∙◌, arith, rules}
+use borrow.Rule.Slice.PartMut.{put_mid, mid_of}
+use Rattle.std.specs.List.{copy_within}
+use Rattle.std.proofs.lemmas.List.{places, take_at, drop_all, length-drop, append_assoc, length-take-le}
+use Rattle.std.proofs.lemmas.List.Edits.{paste_all}
 use Rattle.libraries.specs.Page.{joined}
 
-pub two_taken : (cs part : List ℤ) (p : ℕ) → p < 255 → length cs ≡ 256 → length part ≡ 256 - p → ((k : ℕ) → k + 2 < 256 - p → get_or part k (pos 0) ≡ get_or cs (p + (k + 2)) (pos 0)) → set (set (put_mid p (256 - p) cs part) 254 (pos 0)) 255 (pos 0) ≡ joined cs p
-two_taken cs part p below long left moved =
-    let long' : length (put_mid p (256 - p) cs part) ≡ 256 = search (rules, places) in
-    let long'' : length (set (put_mid p (256 - p) cs part) 254 (pos 0)) ≡ 256 = simp length-set long' in
-    let at254 : get_or (set (put_mid p (256 - p) cs part) 254 (pos 0)) 254 (pos 0) ≡ pos 0 = get_or-set_same (put_mid p (256 - p) cs part) 254 (pos 0) (pos 0) (omega arith) in
-    let at255 : get_or (set (set (put_mid p (256 - p) cs part) 254 (pos 0)) 255 (pos 0)) 255 (pos 0) ≡ pos 0 = get_or-set_same (set (put_mid p (256 - p) cs part) 254 (pos 0)) 255 (pos 0) (pos 0) (omega arith) in
-    ext_get_or (pos 0) _ _ (search (rules, places))
-    (λ k h. let inside : k < 256 = omega (arith, simp length-set at h) in
-    grind (arith, places, get_or-set_other, cases_eq k 254, cases_eq k 255, moved (k - p)))
+-- the codes behind two are copied over them, and the last two are zeros
+pub two_taken : (cs moved zeros : List ℤ) (p : ℕ) → p < 255 → length cs ≡ 256 → moved ≡ copy_within cs (p + 2) 256 p → zeros ≡ replicate (length (mid_of 254 2 moved)) (pos 0) → put_mid 254 2 moved zeros ≡ joined cs p
+two_taken cs moved zeros p low long em ez =
+    let rest : 256 - (p + 2) ≡ length (drop (p + 2) cs) = search (rules, places) in
+    let front : length (take p cs ++ drop (p + 2) cs) ≡ 254 = search (rules, places) in
+    let whole : moved ≡ (take p cs ++ drop (p + 2) cs) ++ drop (p + (256 - (p + 2))) cs = em ∙ paste_all cs p (drop (p + 2) cs) _ rest ∙ sym (append_assoc (take p cs) (drop (p + 2) cs) _) in
+    let kept : take 254 moved ≡ take p cs ++ drop (p + 2) cs = ap (take 254) whole ∙ take_at (take p cs ++ drop (p + 2) cs) _ 254 front in
+    let size : length moved ≡ 256 = search (rules, places) in
+    let none : drop 2 (drop 254 moved) ≡ [] = drop_all 2 (drop 254 moved) (simp length-drop (omega (arith, size))) in
+    let two : length (mid_of 254 2 moved) ≡ 2 = length-take-le 2 (drop 254 moved) (simp length-drop (omega (arith, size))) in
+    rw (kept, none, ez, two) (append_assoc (take p cs) (drop (p + 2) cs) (pos 0 ∷ (pos 0 ∷ [])))

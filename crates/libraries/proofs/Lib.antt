@@ -2,6 +2,5 @@ mod Answered
 mod Joins
 mod PageKeeps
 mod Sorted
-mod Scan
 mod Positions
 mod Finds

@@ -1,76 +1,111 @@
--- What the place of a key means for finding, entering and striking.
-use Rattle.std.proofs.Common.{◌≡◌, ℕ, ◌+◌, ◌<◌, ◌≤◌, true, false, List, length, get_or, take, set, ℤ, pos, Some, None, Ok, Err, sym, ap, ◌∙◌, ⊎_elim, arith}
-use Rattle.std.specs.List.{insert, remove}
-use lib.Seq.{take-set-lt}
-use Rattle.std.proofs.lemmas.Bool.{cases_Bool, cases_lt, both_ways}
-use Rattle.libraries.specs.Index.{bound, ordered, lookup, has_key, entered, struck}
-use Rattle.libraries.specs.Places.{place_of, holds_at, position_of}
+-- What a binary search for a key finds in ordered bindings, and what an edit at that place does.
+use Rattle.std.proofs.Common.{◌≡◌, ℕ, zero, suc, ◌<◌, ◌≤◌, true, false, List, [], ◌∷◌, length, get_or, set, ℤ, pos, Ok, Err, Result, MatchResult, sym, refl, ap, ◌∙◌, arith}
+use lib.Signed.{lt_z}
+use Rattle.std.specs.List.{insert, remove, refill}
+use Rattle.std.specs.List.Sorted.{IsSearchInRange, IsBinarySearchResult, IsNonDecreasingBy}
+use Rattle.std.specs.Ordering.{int_cmp, ordering_index}
+use Rattle.std.proofs.lemmas.Int.{ints}
+use Rattle.std.proofs.lemmas.Cmp.{int_ranked, by_ranked}
+use Rattle.std.proofs.lemmas.Bool.{and_parts}
+use Rattle.std.proofs.lemmas.List.{length-set, take_at}
+use Rattle.std.proofs.lemmas.List.Edits.{length-insert, length-remove}
+use Rattle.std.proofs.lemmas.List.Sorted.{IsNonDecreasingBy-from_default}
+use Rattle.libraries.specs.Arguments.{done, same}
+use Rattle.libraries.specs.Index.{bound, below_all, ordered, enter_key}
+use Rattle.libraries.specs.IndexLaws.{Canonical}
+use Rattle.libraries.specs.Places.{StandsAt, GoesAt}
 use Rattle.libraries.specs.declared.binding.Binding.{Binding}
-use Rattle.libraries.proofs.Sorted.{place_le, holds_outside, holds_has, lookup_at, entered_set, entered_inserted, struck_removed}
+use Rattle.libraries.proofs.Sorted.{ordered_entered, ordered_struck}
 
-pub same_binding : (k k' v v' : ℤ) → k' ≡ k → v' ≡ v → bound k' v' ≡ bound k v
-same_binding k k' v v' e f = cc
+-- the key at a place
+abbrev key_at : List Binding → ℕ → ℤ
+key_at bs i = (get_or bs i (bound (pos 0) (pos 0))).key
 
-module _ (bs : List Binding) (k : ℤ) (p : ℕ) where
-  at_ok : Ok p ≡ position_of bs k → (p ≡ place_of bs k) × (holds_at bs (place_of bs k) k ≡ true)
-  at_ok e =
-      ⊎_elim (λ h. let f : Ok p ≡ Ok (place_of bs k) = rw h at e in (cc, h))
-      (λ h. let f : Ok p ≡ Err (place_of bs k) = rw h at e in absurd (let z : ◌≡◌ {A = ℕ} 0 1 = cc in omega arith))
-      (cases_Bool (holds_at bs (place_of bs k) k))
+below_at : (bs : List Binding) (k : ℤ) (i : ℕ) → below_all k bs ≡ true → i < length bs → lt_z k (key_at bs i) ≡ true
+below_at [] k i h l = absurd (omega arith)
+below_at (b ∷ bs) k zero h l = (and_parts (lt_z k b.key) (below_all k bs) h).0
+below_at (b ∷ bs) k (suc i) h l = below_at bs k i (and_parts (lt_z k b.key) (below_all k bs) h).1 (omega arith)
 
-  at_err : Err p ≡ position_of bs k → (p ≡ place_of bs k) × (holds_at bs (place_of bs k) k ≡ false)
-  at_err e =
-      ⊎_elim (λ h. let f : Err p ≡ Ok (place_of bs k) = rw h at e in absurd (let z : ◌≡◌ {A = ℕ} 0 1 = cc in omega arith))
-      (λ h. let f : Err p ≡ Err (place_of bs k) = rw h at e in (cc, h))
-      (cases_Bool (holds_at bs (place_of bs k) k))
+keys_rise : (bs : List Binding) (i j : ℕ) → ordered bs ≡ true → i < j → j < length bs → lt_z (key_at bs i) (key_at bs j) ≡ true
+keys_rise [] i j o l h = absurd (omega arith)
+keys_rise (b ∷ bs) zero zero o l h = absurd (omega arith)
+keys_rise (b ∷ bs) zero (suc j) o l h = below_at bs b.key j (and_parts (below_all b.key bs) (ordered bs) o).0 (omega arith)
+keys_rise (b ∷ bs) (suc i) zero o l h = absurd (omega arith)
+keys_rise (b ∷ bs) (suc i) (suc j) o l h = keys_rise bs i j (and_parts (below_all b.key bs) (ordered bs) o).1 (omega arith) (omega arith)
 
-  module _ (o : ordered bs ≡ true) where
-    pub finds_ok : (d : Binding) → Ok p ≡ position_of bs k → (has_key bs k ≡ true) × (lookup bs k ≡ Some (get_or bs p d).value)
-    finds_ok d e =
-        let f = at_ok e in
-        let l = lookup_at bs k d o in
-        let t : lookup bs k ≡ Some (get_or bs (place_of bs k) d).value = rw f.1 at l in
-        (sym (holds_has bs k o) ∙ f.1, t ∙ ap (λ i. Some (get_or bs i d).value) (sym f.0))
+pub stands : (bs : List Binding) (k : ℤ) (p : ℕ) → ordered bs ≡ true → p < length bs → key_at bs p ≡ k → StandsAt bs k p
+stands [] k p o l e = absurd (omega arith)
+stands (b ∷ bs) k zero o l e =
+    let here : same b.key k ≡ true = grind (arith, ints) in
+    let level : lt_z b.key k ≡ false = grind (arith, ints) in
+    record { inside = l; present = rw here; value = λ d. rw here; replaced = λ v. rw (level, here); taken = rw here }
+stands (b ∷ bs) k (suc p) o l e =
+    let both = and_parts (below_all b.key bs) (ordered bs) o in
+    let rest = stands bs k p both.1 (omega arith) e in
+    let low : lt_z b.key k ≡ true = rw (sym e) (below_at bs b.key p both.0 (omega arith)) in
+    let apart : same b.key k ≡ false = grind (arith, ints) in
+    record {
+      inside = l;
+      present = rw apart rest.present;
+      value = λ d. rw apart (rest.value d);
+      replaced = λ v. rw low (ap (λ t. b ∷ t) (rest.replaced v));
+      taken = rw apart (ap (λ t. b ∷ t) rest.taken);
+    }
 
-    pub finds_err : Err p ≡ position_of bs k → (has_key bs k ≡ false) × (lookup bs k ≡ None)
-    finds_err e =
-        let f = at_err e in
-        let l = lookup_at bs k (bound (pos 0) (pos 0)) o in
-        let t : lookup bs k ≡ None = rw f.1 at l in
-        (sym (holds_has bs k o) ∙ f.1, t)
+pub goes : (bs : List Binding) (k : ℤ) (p : ℕ) → p ≤ length bs → ((i : ℕ) → i < p → lt_z (key_at bs i) k ≡ true) → ((i : ℕ) → p ≤ i → i < length bs → lt_z k (key_at bs i) ≡ true) → GoesAt bs k p
+goes [] k zero l below above = record { inside = l; absent = refl; unbound = refl; put = λ v. refl }
+goes [] k (suc p) l below above = absurd (omega arith)
+goes (b ∷ bs) k zero l below above =
+    let rest = goes bs k zero (omega arith) (λ i h. absurd (omega arith)) (λ i le h. above (suc i) (omega arith) (omega arith)) in
+    let high : lt_z k b.key ≡ true = above zero (omega arith) (omega arith) in
+    let apart : same b.key k ≡ false = grind (arith, ints) in
+    let level : lt_z b.key k ≡ false = grind (arith, ints) in
+    record { inside = l; absent = rw apart rest.absent; unbound = rw apart rest.unbound; put = λ v. rw (level, apart) }
+goes (b ∷ bs) k (suc p) l below above =
+    let rest = goes bs k p (omega arith) (λ i h. below (suc i) (omega arith)) (λ i le h. above (suc i) (omega arith) (omega arith)) in
+    let low : lt_z b.key k ≡ true = below zero (omega arith) in
+    let apart : same b.key k ≡ false = grind (arith, ints) in
+    record {
+      inside = l;
+      absent = rw apart rest.absent;
+      unbound = rw apart rest.unbound;
+      put = λ v. rw low (ap (λ t. b ∷ t) (rest.put v));
+    }
 
-    pub set_entered : (v : ℤ) → Ok p ≡ position_of bs k → set bs p (bound k v) ≡ entered bs k v
-    set_entered v e = ap (λ i. set bs i (bound k v)) (at_ok e).0 ∙ entered_set bs k v (at_ok e).1
+module _ (bs : List Binding) (o : ordered bs ≡ true) (k : ℤ) where
+  -- the comparisons with k rise along the bindings, as a binary search asks
+  comparisons_rise : IsNonDecreasingBy (λ b. ordering_index (int_cmp b.key k)) bs
+  comparisons_rise = IsNonDecreasingBy-from_default (λ b. ordering_index (int_cmp b.key k)) bs (bound (pos 0) (pos 0)) (λ i j le inside.
+      grind (arith, ints, keys_rise bs i j o, λ (same : i ≡ j). ap (key_at bs) same))
 
-    pub inserted_entered : (v : ℤ) → Err p ≡ position_of bs k → insert bs p (bound k v) ≡ entered bs k v
-    inserted_entered v e = ap (λ i. insert bs i (bound k v)) (at_err e).0 ∙ entered_inserted bs k v (at_err e).1
+  pub searched : (j : ℤ) → j ≡ k → (r : Result ℕ ℕ) → IsSearchInRange r (length bs) → IsBinarySearchResult (λ b. int_cmp b.key j) bs r → MatchResult r (StandsAt bs k) (GoesAt bs k)
+  searched j e (Ok p) inside equal = stands bs k p o inside (rw (sym e) (int_ranked _ j _ (sym (equal (bound (pos 0) (pos 0))))))
+  searched j e (Err p) inside parted =
+      let parts = rw e at parted in
+      goes bs k p inside
+      (λ i l. let low = int_ranked (key_at bs i) k _ (sym ((parts comparisons_rise).0 i (bound (pos 0) (pos 0)) (omega arith) l)) in grind (arith, ints))
+      (λ i le l. let high = int_ranked (key_at bs i) k _ (sym ((parts comparisons_rise).1 i (bound (pos 0) (pos 0)) le l)) in grind (arith, ints))
 
-    pub removed_struck : Ok p ≡ position_of bs k → remove bs p ≡ struck bs k
-    removed_struck e = ap (remove bs) (at_ok e).0 ∙ struck_removed bs k (at_ok e).1
+-- an element written through a slice of all elements is written
+pub refill-set : {X : Type 0} (xs : List X) (i : ℕ) (x : X) → refill (length xs) xs (set xs i x) ≡ set xs i x
+refill-set xs i x = take_at (set xs i x) _ (length xs) (length-set xs i x)
 
--- the array after an old key got its new value
-pub stored_old : (xs : List Binding) (n p : ℕ) (k k' v v' : ℤ) → k' ≡ k → v' ≡ v → ordered (take n xs) ≡ true → p < n → Ok p ≡ position_of (take n xs) k → take n (set xs p (bound k' v')) ≡ entered (take n xs) k v
-stored_old xs n p k k' v v' ek ev o lt e =
-    take-set-lt n xs p (bound k' v') lt ∙ ap (set (take n xs) p) (same_binding k k' v v' ek ev) ∙ set_entered (take n xs) k p o v e
+module _ (bs : List Binding) (now : Canonical bs) (k : ℤ) (p : ℕ) where
+  pub canonical_set : StandsAt bs k p → (v : ℤ) → Canonical (set bs p (bound k v))
+  canonical_set here v = record { few = simp length-set now.few; sorted = ap ordered (here.replaced v) ∙ ordered_entered bs k v now.sorted }
 
--- the array after a new key was put at its place
-pub stored_new : (xs ys : List Binding) (n p : ℕ) (k k' v v' : ℤ) → k' ≡ k → v' ≡ v → ordered (take n xs) ≡ true → Err p ≡ position_of (take n xs) k → take (n + 1) ys ≡ insert (take n xs) p (bound k' v') → take (n + 1) ys ≡ entered (take n xs) k v
-stored_new xs ys n p k k' v v' ek ev o e put =
-    put ∙ ap (insert (take n xs) p) (same_binding k k' v v' ek ev) ∙ inserted_entered (take n xs) k p o v e
+  pub canonical_inserted : GoesAt bs k p → (v : ℤ) → length bs < 32 → Canonical (insert bs p (bound k v))
+  canonical_inserted there v room = record {
+    few = omega (arith, length-insert bs p (bound k v) there.inside);
+    sorted = ap ordered (there.put v) ∙ ordered_entered bs k v now.sorted;
+  }
 
--- the position from the place and whether the key stands there
-pub is_ok : (bs : List Binding) (k k' : ℤ) (p : ℕ) → k' ≡ k → p ≡ place_of bs k' → holds_at bs p k' ≡ true → (Ok p ≡ position_of bs k) × (p < length bs)
-is_ok bs k k' p ek ep h =
-    let place : p ≡ place_of bs k = ep ∙ ap (place_of bs) ek in
-    let held : holds_at bs (place_of bs k) k ≡ true = ap (λ i. holds_at bs i k) (sym place) ∙ ap (holds_at bs p) (sym ek) ∙ h in
-    let there : position_of bs k ≡ Ok (place_of bs k) = rw held in (
-      ap Ok place ∙ sym there,
-      ⊎_elim (λ lt. lt) (λ le. absurd (both_ways _ (holds_outside bs p k' le) h)) (cases_lt p (length bs)),
-    )
+  pub canonical_removed : StandsAt bs k p → Canonical (remove bs p)
+  canonical_removed here = record {
+    few = omega (arith, now.few, length-remove bs p here.inside);
+    sorted = ap ordered here.taken ∙ ordered_struck bs k now.sorted;
+  }
 
-pub is_err : (bs : List Binding) (k k' : ℤ) (p : ℕ) → k' ≡ k → p ≡ place_of bs k' → holds_at bs p k' ≡ false → (Err p ≡ position_of bs k) × (p ≤ length bs)
-is_err bs k k' p ek ep h =
-    let place : p ≡ place_of bs k = ep ∙ ap (place_of bs) ek in
-    let held : holds_at bs (place_of bs k) k ≡ false = ap (λ i. holds_at bs i k) (sym place) ∙ ap (holds_at bs p) (sym ek) ∙ h in
-    let there : position_of bs k ≡ Err (place_of bs k) = rw held in
-    (ap Err place ∙ sym there, omega (arith, place_le bs k))
+-- a key that stands at a place is entered there
+pub enters_there : (bs : List Binding) (k v : ℤ) (p : ℕ) → StandsAt bs k p → done (set bs p (bound k v)) ≡ enter_key bs k v
+enters_there bs k v p here = rw here.present (ap done (here.replaced v))

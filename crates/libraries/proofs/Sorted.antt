@@ -1,12 +1,10 @@
--- Bindings in the order of their keys: places, entering and striking.
-use Rattle.std.proofs.Common.{◌≡◌, ℕ, zero, suc, ◌<◌, ◌≤◌, true, false, cond, List, [], ◌∷◌, length, get_or, set, ℤ, Some, None, sym, refl, ap, subst, ⊎_elim, arith}
+-- Bindings in the order of their keys: entering and striking.
+use Rattle.std.proofs.Common.{◌≡◌, true, false, List, [], ◌∷◌, ℤ, None, refl, subst, ⊎_elim, arith}
 use lib.Signed.{lt_z}
-use Rattle.std.specs.List.{insert, remove}
 use Rattle.std.proofs.lemmas.Int.{ints}
 use Rattle.std.proofs.lemmas.Bool.{cases_Bool, and_parts, and_from}
 use Rattle.libraries.specs.Arguments.{same}
-use Rattle.libraries.specs.Index.{bound, below_all, ordered, lookup, has_key, entered, struck}
-use Rattle.libraries.specs.Places.{place_of, holds_at}
+use Rattle.libraries.specs.Index.{below_all, ordered, lookup, has_key, entered, struck}
 use Rattle.libraries.specs.declared.binding.Binding.{Binding}
 
 -- how two keys compare
@@ -20,11 +18,6 @@ order a k =
     ⊎_elim (λ l. below l (grind (arith, ints)))
     (λ l. ⊎_elim (λ s. equal l s (grind (arith, ints))) (λ n. above l n (grind (arith, ints))) (cases_Bool (same a k)))
     (cases_Bool (lt_z a k))
-
-pub place_le : (bs : List Binding) (k : ℤ) → place_of bs k ≤ length bs
-place_le [] k = omega arith
-place_le (b ∷ bs) k =
-    elim (order b.key k) [ below l n ↦ rw l (omega (arith, place_le bs k)) | equal l s e ↦ rw l (omega arith) | above l n g ↦ rw l (omega arith) ]
 
 -- nothing has a key that is below all
 pub none_below : (bs : List Binding) (k : ℤ) → below_all k bs ≡ true → (has_key bs k ≡ false) × (lookup bs k ≡ None)
@@ -41,54 +34,6 @@ below_more (b ∷ bs) j k l h =
     let both = and_parts (lt_z k b.key) (below_all k bs) h in
     let low = both.0 in
     and_from _ _ (grind (arith, ints)) (below_more bs j k l both.1)
-
--- the key stands at its place, or nowhere
-pub holds_has : (bs : List Binding) (k : ℤ) → ordered bs ≡ true → holds_at bs (place_of bs k) k ≡ has_key bs k
-holds_has [] k o = refl
-holds_has (b ∷ bs) k o =
-    let both = and_parts (below_all b.key bs) (ordered bs) o in
-    elim (order b.key k) [
-      | below l n ↦ rw (l, n) (holds_has bs k both.1)
-      | equal l s e ↦ rw (l, s)
-      | above l n g ↦ rw (l, n) (sym (none_below bs k (below_more bs k b.key g both.0)).0)
-    ]
-
-pub lookup_at : (bs : List Binding) (k : ℤ) (d : Binding) → ordered bs ≡ true → lookup bs k ≡ cond (holds_at bs (place_of bs k) k) (Some (get_or bs (place_of bs k) d).value) None
-lookup_at [] k d o = refl
-lookup_at (b ∷ bs) k d o =
-    let both = and_parts (below_all b.key bs) (ordered bs) o in
-    elim (order b.key k) [
-      | below l n ↦ rw (l, n) (lookup_at bs k d both.1)
-      | equal l s e ↦ rw (l, s)
-      | above l n g ↦ rw (l, n) (none_below bs k (below_more bs k b.key g both.0)).1
-    ]
-
-pub entered_set : (bs : List Binding) (k v : ℤ) → holds_at bs (place_of bs k) k ≡ true → set bs (place_of bs k) (bound k v) ≡ entered bs k v
-entered_set [] k v h = absurd (let z : ◌≡◌ {A = ℕ} 0 1 = cc in omega arith)
-entered_set (b ∷ bs) k v h =
-    elim (order b.key k) [
-      | below l n ↦ rw l (ap (λ t. b ∷ t) (entered_set bs k v (rw l at h)))
-      | equal l s e ↦ rw (l, s)
-      | above l n g ↦ absurd (let t : same b.key k ≡ true = rw l at h in let z : ◌≡◌ {A = ℕ} 0 1 = cc in omega arith)
-    ]
-
-pub entered_inserted : (bs : List Binding) (k v : ℤ) → holds_at bs (place_of bs k) k ≡ false → insert bs (place_of bs k) (bound k v) ≡ entered bs k v
-entered_inserted [] k v h = refl
-entered_inserted (b ∷ bs) k v h =
-    elim (order b.key k) [
-      | below l n ↦ rw l (ap (λ t. b ∷ t) (entered_inserted bs k v (rw l at h)))
-      | equal l s e ↦ absurd (let t : same b.key k ≡ false = rw l at h in let z : ◌≡◌ {A = ℕ} 0 1 = cc in omega arith)
-      | above l n g ↦ rw (l, n)
-    ]
-
-pub struck_removed : (bs : List Binding) (k : ℤ) → holds_at bs (place_of bs k) k ≡ true → remove bs (place_of bs k) ≡ struck bs k
-struck_removed [] k h = absurd (let z : ◌≡◌ {A = ℕ} 0 1 = cc in omega arith)
-struck_removed (b ∷ bs) k h =
-    elim (order b.key k) [
-      | below l n ↦ rw (l, n) (ap (λ t. b ∷ t) (struck_removed bs k (rw l at h)))
-      | equal l s e ↦ rw (l, s)
-      | above l n g ↦ absurd (let t : same b.key k ≡ true = rw l at h in let z : ◌≡◌ {A = ℕ} 0 1 = cc in omega arith)
-    ]
 
 pub below_entered : (bs : List Binding) (j k v : ℤ) → lt_z j k ≡ true → below_all j bs ≡ true → below_all j (entered bs k v) ≡ true
 below_entered [] j k v l h = and_from _ _ l refl
@@ -121,14 +66,3 @@ ordered_struck [] k o = refl
 ordered_struck (b ∷ bs) k o =
     let both = and_parts (below_all b.key bs) (ordered bs) o in
     ⊎_elim (λ s. rw s both.1) (λ n. rw n (and_from _ _ (below_struck bs b.key k both.0) (ordered_struck bs k both.1))) (cases_Bool (same b.key k))
-
--- a place that there is, and one that there is not
-pub holds_inside : (bs : List Binding) (i : ℕ) (k : ℤ) (d : Binding) → i < length bs → holds_at bs i k ≡ same (get_or bs i d).key k
-holds_inside [] i k d h = absurd (omega arith)
-holds_inside (b ∷ bs) zero k d h = refl
-holds_inside (b ∷ bs) (suc i) k d h = holds_inside bs i k d (omega arith)
-
-pub holds_outside : (bs : List Binding) (i : ℕ) (k : ℤ) → length bs ≤ i → holds_at bs i k ≡ false
-holds_outside [] i k h = refl
-holds_outside (b ∷ bs) zero k h = absurd (omega arith)
-holds_outside (b ∷ bs) (suc i) k h = holds_outside bs i k (omega arith)

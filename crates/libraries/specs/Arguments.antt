@@ -1,5 +1,5 @@
 -- Raises, and methods with one or two arguments. Assumes nothing.
-use Rattle.std.specs.Prelude.{ℕ, Bool, false, cond, List, [], ◌∷◌, ℤ, pos, int_le}
+use Rattle.std.specs.Prelude.{ℕ, Bool, false, if◌then◌else◌, List, [], ◌∷◌, ℤ, pos, int_le}
 use Rattle.interface.specs.Values.{number_of}
 use Rattle.interface.specs.declared.value.Value.{Value}
 use Rattle.interface.specs.declared.answers.LibraryAnswer.{LibraryAnswer}
@@ -19,7 +19,7 @@ done s = (Return (pos 0), s)
 
 -- two numbers are the same
 abbrev pub same : ℤ → ℤ → Bool
-same a b = cond (int_le a b) (int_le b a) false
+same a b = if int_le a b then int_le b a else false
 
 -- what a method of one argument does; 8 is raised for another count of values
 abbrev pub with_one : {State : Type 0} → State → (ℤ → Step State) → List Value → Step State

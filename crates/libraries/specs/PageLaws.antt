@@ -1,5 +1,5 @@
 -- What the page's rule means to its users: what was put is read, and a join keeps every other code. Assumes nothing.
-use Rattle.std.specs.Prelude.{◌≡◌, ℕ, ◌<◌, Bool, true, false, cond, not, ◌&&◌, List, [], ◌∷◌, ◌++◌, length, take, drop, ℤ, pos, ◌==◌, int_le}
+use Rattle.std.specs.Prelude.{◌≡◌, ℕ, ◌<◌, Bool, true, false, if◌then◌else◌, not, ◌&&◌, List, [], ◌∷◌, ◌++◌, length, take, drop, ℤ, pos, ◌==◌, int_le}
 use Rattle.interface.specs.Equality.{Call, library_after}
 use Rattle.interface.specs.Values.{number_of}
 use Rattle.interface.specs.declared.value.Value.{Value}
@@ -31,7 +31,7 @@ joins_up_to p (v ∷ (w ∷ more)) = false
 
 -- a call that may write at a place
 abbrev pub may_write : ℕ → ℕ → List Value → Bool
-may_write p m vs = cond (m == 1) (puts_at p vs) (cond (m == 2) (joins_up_to p vs) false)
+may_write p m vs = if m == 1 then puts_at p vs else if m == 2 then joins_up_to p vs else false
 
 -- none of some calls may write at a place
 abbrev pub none_writes : ℕ → List Call → Bool
@@ -40,8 +40,12 @@ none_writes p ((m, vs) ∷ calls) = not (may_write p m vs) && none_writes p call
 
 -- what was put at a place is read there after any calls that do not write at it
 abbrev pub PutIsRead : Type 0
-PutIsRead = (cs : List ℤ) (p c : ℕ) (calls : List Call) → length cs ≡ 256 → p < 256 → c < 1114112 → none_writes p calls ≡ true → (page_rule (library_after page_rule (page_rule cs 1 (two p c)).1 calls) 0 (one p)).0 ≡ Return (pos c)
+PutIsRead =
+    (cs : List ℤ) (p c : ℕ) (calls : List Call) → length cs ≡ 256 → p < 256 → c < 1114112 → none_writes p calls ≡ true
+    → (page_rule (library_after page_rule (page_rule cs 1 (two p c)).1 calls) 0 (one p)).0 ≡ Return (pos c)
 
 -- where a join is done, the new page with hyphen and line feed put back is the old page with two zeros behind it
 abbrev pub JoinKeepsTheRest : Type 0
-JoinKeepsTheRest = (cs new : List ℤ) (p : ℕ) → length cs ≡ 256 → page_rule cs 2 (one p) ≡ done new → take p new ++ (pos 45 ∷ (pos 10 ∷ drop p new)) ≡ cs ++ (pos 0 ∷ (pos 0 ∷ []))
+JoinKeepsTheRest =
+    (cs new : List ℤ) (p : ℕ) → length cs ≡ 256 → page_rule cs 2 (one p) ≡ done new
+    → take p new ++ (pos 45 ∷ (pos 10 ∷ drop p new)) ≡ cs ++ (pos 0 ∷ (pos 0 ∷ []))

@@ -1,9 +1,10 @@
-ghost use Rattle.std.specs.Prelude.{◌≡◌, ◌<◌, List, ℤ};
+ghost use Rattle.std.specs.Prelude.{◌≡◌, ◌<◌, length, List, ℤ};
 ghost use Rattle.libraries.specs.Page.{blank, code_at, read_at, put_at, joined, join_at, page_rule};
 
 use interface::answers::LibraryAnswer;
 use interface::parties::Library;
 use interface::value::Value;
+use std::marker::Model;
 
 // The text of a register page: 256 codes of characters.
 #[derive(Drop)]
@@ -11,63 +12,68 @@ pub struct Page {
     codes: [i32; 256],
 }
 
+impl Model for Page {
+    ghost Value = { List ℤ };
+
+    ghost view = { λ p. p.codes };
+}
+
 impl Page {
     pub fn new() -> Page
-        ensures { result.codes ≡ blank }
+        ensures { result ≡ blank }
     {
         Page { codes: [0; 256] }
     }
 
     // Looks at a place without a call.
     pub fn code(&self, place: u8) -> i32
-        ensures { result ≡ code_at self.now.codes place }
+        ensures code { result ≡ code_at self.now place }
+        ensures whole { length self.now ≡ 256 }
     {
         self.codes[usize::from(place)]
     }
 
     fn read(&self, place: i32) -> LibraryAnswer
-        ensures { (result, self.now.codes) ≡ read_at self.now.codes place }
+        ensures { (result, self.now) ≡ read_at self.now place }
     {
-        if place < 0 || place > 255 {
-            return LibraryAnswer::Raise(1);
+        match u8::try_from(place) {
+            Ok(at) => LibraryAnswer::Return(self.code(at)),
+            Err(_) => LibraryAnswer::Raise(1),
         }
-        LibraryAnswer::Return(self.codes[place as usize])
     }
 
     fn put(&mut self, place: i32, code: i32) -> LibraryAnswer
-        ensures { (result, self.new.codes) ≡ put_at self.old.codes place code }
+        ensures { (result, self.new) ≡ put_at self.old place code }
     {
-        if place < 0 || place > 255 {
+        let Ok(at) = u8::try_from(place) else {
             return LibraryAnswer::Raise(1);
-        }
+        };
         if code < 0 || code > 1114111 {
             return LibraryAnswer::Raise(2);
         }
-        self.codes[place as usize] = code;
+        self.codes[usize::from(at)] = code;
         LibraryAnswer::Return(0)
     }
 
     // Takes out the two codes at a place, moves the rest up and ends in two zeros.
     fn take_two(&mut self, place: usize)
         requires { place < 255 }
-        ensures { self.new.codes ≡ joined self.old.codes place }
+        ensures { self.new ≡ joined self.old place }
     {
-        self.codes[place..256].rotate_left(2);
-        self.codes[254] = 0;
-        self.codes[255] = 0;
+        self.codes.copy_within(place + 2.., place);
+        self.codes[254..].fill(0);
     }
 
     fn join(&mut self, place: i32) -> LibraryAnswer
-        ensures { (result, self.new.codes) ≡ join_at self.old.codes place }
+        ensures { (result, self.new) ≡ join_at self.old place }
     {
-        if place < 0 || place > 254 {
+        let Ok(at @ 0..=254) = u8::try_from(place) else {
             return LibraryAnswer::Raise(1);
-        }
-        let hyphen = place as usize;
-        if self.codes[hyphen] != 45 || self.codes[hyphen + 1] != 10 {
+        };
+        if self.code(at) != 45 || self.code(at + 1) != 10 {
             return LibraryAnswer::Raise(3);
         }
-        self.take_two(hyphen);
+        self.take_two(usize::from(at));
         LibraryAnswer::Return(0)
     }
 }
@@ -75,7 +81,7 @@ impl Page {
 impl Library for Page {
     ghost State = { List ℤ };
 
-    ghost state = { λ s. s.codes };
+    ghost state = { λ codes. codes };
 
     ghost rule = { λ _. page_rule };
 

@@ -1,14 +1,15 @@
-use interface::answers::QuestionKind;
+use interface::answers::{LibraryAnswer, PolicyAnswer, QuestionKind};
 use interface::parties::{Library, Policy};
 use interface::value::Value;
+use std::fmt::Debug;
 use std::test::Fail;
 
 pub fn number(n: i32) -> Value {
     Value::Number(n)
 }
 
-// The flag and the number of an answer are those that were wanted.
-fn answered(found: (u8, i32), wanted: (u8, i32)) -> Result<(), Fail> {
+// What was found is what was wanted.
+pub fn same<T: PartialEq + Debug + Drop>(found: T, wanted: T) -> Result<(), Fail> {
     if found == wanted {
         return Ok(());
     }
@@ -22,8 +23,7 @@ pub fn returns<L: Library>(
     values: &[Value],
     n: i32,
 ) -> Result<(), Fail> {
-    let answer = library.call(method, values);
-    answered((answer.flag(), answer.number(true)), (0, n))
+    same(library.call(method, values), LibraryAnswer::Return(n))
 }
 
 // The library raises this code.
@@ -33,14 +33,12 @@ pub fn raises<L: Library>(
     values: &[Value],
     code: i32,
 ) -> Result<(), Fail> {
-    let answer = library.call(method, values);
-    answered((answer.flag(), answer.number(true)), (1, code))
+    same(library.call(method, values), LibraryAnswer::Raise(code))
 }
 
 // The policy passes.
 pub fn passes<P: Policy>(policy: &mut P, kind: QuestionKind, method: u8) -> Result<(), Fail> {
-    let answer = policy.ask(kind, method, &[]);
-    answered((answer.flag(), answer.number()), (0, 0))
+    same(policy.ask(kind, method, &[]), PolicyAnswer::Pass)
 }
 
 // The policy stops with this code.
@@ -50,6 +48,5 @@ pub fn stops<P: Policy>(
     method: u8,
     code: i32,
 ) -> Result<(), Fail> {
-    let answer = policy.ask(kind, method, &[]);
-    answered((answer.flag(), answer.number()), (1, code))
+    same(policy.ask(kind, method, &[]), PolicyAnswer::Stop(code))
 }

@@ -1,30 +1,26 @@
-use crate::asking::{passes, stops};
+use crate::asking::{passes, same, stops};
 use interface::answers::QuestionKind;
 use policies::allowance::Allowance;
 use policies::chart::Chart;
 use policies::pair::Pair;
+use refusal::Refusal;
 use std::test::Fail;
 
 // Drawing this arrow is refused with 17.
 fn refused(chart: &mut Chart, from: u8, kind: u8, method: u8, to: u8) -> Result<(), Fail> {
-    match chart.draw(from, kind, method, to) {
-        Ok(()) => Err(Fail::new("drawn")),
-        Err(fault) => {
-            let refusal = fault.refusal();
-            let found = (refusal.number, refusal.first, refusal.second);
-            if found != (17, 0, 0) {
-                return Err(Fail::new(format_args!("{found:?}, and not (17, 0, 0)")));
-            }
-            Ok(())
-        }
-    }
+    let wanted = Refusal {
+        number: 17,
+        first: 0,
+        second: 0,
+    };
+    same(
+        chart.draw(from, kind, method, to).map_err(Refusal::from),
+        Err(wanted),
+    )
 }
 
 fn drawn(chart: &mut Chart, from: u8, kind: u8, method: u8, to: u8) -> Result<(), Fail> {
-    match chart.draw(from, kind, method, to) {
-        Ok(()) => Ok(()),
-        Err(_) => Err(Fail::new("refused")),
-    }
+    same(chart.draw(from, kind, method, to), Ok(()))
 }
 
 fn allowance(method_31: u32) -> Allowance {

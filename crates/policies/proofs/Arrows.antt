@@ -7,8 +7,8 @@ use Rattle.interface.specs.declared.answers.QuestionKind.{QuestionKind}
 use Rattle.interface.specs.declared.answers.QuestionKind.TheVariants.{Before, After, Except}
 use Rattle.policies.specs.Chart.{Arrows, slot, arrow_at, leads_to_box, Drawn, drawn_at, drawn_on, drawn}
 use Rattle.policies.specs.ChartLaws.{Apart, OneArrowDrawn}
-use Rattle.policies.specs.declared.refusal.ArrowFault.{ArrowFault}
-use Rattle.policies.specs.declared.refusal.ArrowFault.TheVariants.{NoSuchBox, NoSuchMethod, AlreadyThere}
+use Rattle.policies.specs.declared.fault.ArrowFault.{ArrowFault}
+use Rattle.policies.specs.declared.fault.ArrowFault.TheVariants.{NoSuchBox, NoSuchMethod, AlreadyThere}
 
 pub none_lead : (n k : ℕ) → leads_to_box (get_or (replicate n None) k None) ≡ true
 none_lead zero k = refl

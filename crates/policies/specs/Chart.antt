@@ -1,14 +1,14 @@
 -- The rule of the chart, over the list of its arrows, and the drawing of an arrow. Assumes nothing.
-use Rattle.std.specs.Prelude.{◌≡◌, ℕ, ◌+◌, ◌-◌, ◌*◌, Bool, true, cond, ◌&&◌, List, replicate, pos, Some, None, Ok, Err, Option, Result, nat_lt, slice_index_or, slice_set}
+use Rattle.std.specs.Prelude.{◌≡◌, ℕ, ◌+◌, ◌-◌, ◌*◌, ◌<◌, Bool, true, if◌then◌else◌, ◌&&◌, List, length, replicate, pos, Some, None, Ok, Err, Option, Result, nat_lt, slice_index_or, slice_set}
 use Rattle.interface.specs.Answers.{kind_number, kind_numbered}
 use Rattle.interface.specs.Rules.{PolicyRule}
 use Rattle.interface.specs.declared.answers.QuestionKind.{QuestionKind}
 use Rattle.interface.specs.declared.answers.QuestionKind.TheVariants.{Before, After, Except}
 use Rattle.interface.specs.declared.answers.PolicyAnswer.{PolicyAnswer}
 use Rattle.interface.specs.declared.answers.PolicyAnswer.TheVariants.{Pass, Stop}
-use Rattle.policies.specs.declared.refusal.ArrowFault.{ArrowFault}
-use Rattle.policies.specs.declared.refusal.ArrowFault.TheVariants.{NoSuchBox, NoSuchKind, NoSuchMethod, AlreadyThere}
-use Rattle.policies.specs.declared.refusal.Refusal.{Refusal}
+use Rattle.policies.specs.declared.fault.ArrowFault.{ArrowFault}
+use Rattle.policies.specs.declared.fault.ArrowFault.TheVariants.{NoSuchBox, NoSuchKind, NoSuchMethod, AlreadyThere}
+use Rattle.refusal.specs.declared.Refusal.{Refusal}
 
 -- the arrows of a chart: for each of 16 boxes, 3 kinds and 32 methods the box that an arrow leads to, if there is one
 abbrev pub Arrows : Type 0
@@ -24,7 +24,7 @@ slot from kind m = from * 96 + (kind_number kind - 2) * 32 + m
 
 -- the box that an arrow leads to; on a method above 31 there is none
 abbrev pub arrow_at : Arrows → ℕ → QuestionKind → ℕ → Option ℕ
-arrow_at arrows from kind m = cond (nat_lt m 32) (slice_index_or arrows (slot from kind m) None) None
+arrow_at arrows from kind m = if nat_lt m 32 then slice_index_or arrows (slot from kind m) None else None
 
 -- the answer where there is no arrow: a before stops with the number of the box
 abbrev pub unmoved : QuestionKind → ℕ → PolicyAnswer
@@ -50,6 +50,17 @@ leads_to_box (Some to) = nat_lt to 16
 abbrev pub AllLead : Arrows → Type 0
 AllLead arrows = (k : ℕ) → leads_to_box (slice_index_or arrows k None) ≡ true
 
+-- what a chart is: its arrows, and the box that is current
+pub record Moves : Type 0 where
+  pub arrows : Arrows
+  pub current : ℕ
+
+-- a place for each arrow, and a chart in a box whose arrows lead to boxes
+pub record IsSound (chart : Moves) : Type 0 where
+  pub whole : length chart.arrows ≡ 1536
+  pub boxed : chart.current < 16
+  pub lead : AllLead chart.arrows
+
 -- the answer to drawing an arrow, and the arrows after it
 abbrev pub Drawn : Type 0
 Drawn = Result (Unit {0}) ArrowFault × Arrows
@@ -62,11 +73,15 @@ drawn_at arrows place to (Some old) = (Err AlreadyThere, arrows)
 -- an arrow between boxes that there are, on a kind by its number and a method
 abbrev pub drawn_on : Arrows → ℕ → Option QuestionKind → ℕ → ℕ → Drawn
 drawn_on arrows from None m to = (Err NoSuchKind, arrows)
-drawn_on arrows from (Some kind) m to = cond (nat_lt m 32) (drawn_at arrows (slot from kind m) to (slice_index_or arrows (slot from kind m) None)) (Err NoSuchMethod, arrows)
+drawn_on arrows from (Some kind) m to =
+    if nat_lt m 32 then drawn_at arrows (slot from kind m) to (slice_index_or arrows (slot from kind m) None)
+    else (Err NoSuchMethod, arrows)
 
 -- drawing an arrow; a refusal changes nothing
 abbrev pub drawn : Arrows → ℕ → ℕ → ℕ → ℕ → Drawn
-drawn arrows from number m to = cond (nat_lt from 16 && nat_lt to 16) (drawn_on arrows from (kind_numbered number) m to) (Err NoSuchBox, arrows)
+drawn arrows from number m to =
+    if nat_lt from 16 && nat_lt to 16 then drawn_on arrows from (kind_numbered number) m to
+    else (Err NoSuchBox, arrows)
 
 -- every refusal of an arrow has number 17 and no place
 abbrev pub arrow_refusal : ArrowFault → Refusal

@@ -10,4 +10,9 @@ Apart from kind m from' kind' m' = (from ≢ from') ⊎ ((kind_number kind ≢ k
 
 -- a drawn arrow leads to its box, and every other arrow is as before
 abbrev pub OneArrowDrawn : Type 0
-OneArrowDrawn = (arrows new : Arrows) (from : ℕ) (kind : QuestionKind) (m to : ℕ) → length arrows ≡ 1536 → drawn arrows from (kind_number kind) m to ≡ (Ok tt, new) → (arrow_at new from kind m ≡ Some to) × ((from' : ℕ) (kind' : QuestionKind) (m' : ℕ) → Apart from kind m from' kind' m' → arrow_at new from' kind' m' ≡ arrow_at arrows from' kind' m')
+OneArrowDrawn =
+    (arrows new : Arrows) (from : ℕ) (kind : QuestionKind) (m to : ℕ) → length arrows ≡ 1536
+    → drawn arrows from (kind_number kind) m to ≡ (Ok tt, new)
+    → (arrow_at new from kind m ≡ Some to)
+    × ((from' : ℕ) (kind' : QuestionKind) (m' : ℕ) → Apart from kind m from' kind' m'
+    → arrow_at new from' kind' m' ≡ arrow_at arrows from' kind' m')

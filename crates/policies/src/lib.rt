@@ -2,6 +2,6 @@
 
 pub mod allowance;
 pub mod chart;
+pub mod fault;
 pub mod laws;
 pub mod pair;
-pub mod refusal;

@@ -4,6 +4,7 @@ ghost use Rattle.policies.specs.Pair.{pair_rule};
 use interface::answers::{PolicyAnswer, QuestionKind};
 use interface::parties::Policy;
 use interface::value::Value;
+use std::marker::Model;
 
 // Two policies of any make as one. The second is asked only if the first passed.
 #[derive(Drop)]
@@ -12,16 +13,22 @@ pub struct Pair<A, B> {
     second: B,
 }
 
+impl<A, B> Model for Pair<A, B> {
+    ghost Value = { A × B };
+
+    ghost view = { λ p. (p.first, p.second) };
+}
+
 impl<A, B> Pair<A, B> {
     pub fn new(first: A, second: B) -> Pair<A, B>
-        ensures { (result.first ≡ first) × (result.second ≡ second) }
+        ensures { result ≡ (first, second) }
     {
         Pair { first, second }
     }
 
     // Gives both policies back.
     pub fn into_parts(self) -> (A, B)
-        ensures { (result.0 ≡ self.first) × (result.1 ≡ self.second) }
+        ensures { result ≡ self }
     {
         let Pair { first, second } = self;
         (first, second)
@@ -31,9 +38,9 @@ impl<A, B> Pair<A, B> {
 impl<A: Policy, B: Policy> Policy for Pair<A, B> {
     ghost State = { A.Policy.State × B.Policy.State };
 
-    ghost state = { λ s. (A.Policy.state s.first, B.Policy.state s.second) };
+    ghost state = { λ p. (A.Policy.state p.0, B.Policy.state p.1) };
 
-    ghost rule = { λ s. pair_rule (A.Policy.rule s.first) (B.Policy.rule s.second) };
+    ghost rule = { λ p. pair_rule (A.Policy.rule p.0) (B.Policy.rule p.1) };
 
     fn ask(&mut self, kind: QuestionKind, method: u8, values: &[Value]) -> PolicyAnswer {
         match self.first.ask(kind, method, values) {

@@ -1,5 +1,6 @@
-use Rattle.interface.proofs.Equals.{libraries_stay_equal}
+use Rattle.interface.specs.Equality.{library_step}
+use Rattle.interface.proofs.Equals.{stay_equal}
 use Rattle.interface.proofs.laws.equal_libraries_stand.Goals as goal
 
 pub returns : goal.returns
-returns g c = libraries_stay_equal
+returns g c = stay_equal library_step

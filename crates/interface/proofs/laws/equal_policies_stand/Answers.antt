@@ -1,5 +1,6 @@
-use Rattle.interface.proofs.Equals.{policies_stay_equal}
+use Rattle.interface.specs.Equality.{policy_step}
+use Rattle.interface.proofs.Equals.{stay_equal}
 use Rattle.interface.proofs.laws.equal_policies_stand.Goals as goal
 
 pub returns : goal.returns
-returns g c = policies_stay_equal
+returns g c = stay_equal policy_step
