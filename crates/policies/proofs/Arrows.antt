@@ -1,5 +1,5 @@
 -- Arrows in a list: a chart without any, and one more drawn.
-use Rattle.std.proofs.Common.{◌≡◌, ℕ, zero, suc, ◌<◌, true, false, ◌&&◌, ltb, length, get_or, set, replicate, Some, None, Ok, Err, Option, Result, sym, refl, ap, ◌∙◌, subst, ⊎_elim, arith}
+use Rattle.std.proofs.Common.{◌≡◌, ℕ, zero, suc, ◌<◌, ◌≤◌, true, false, ◌&&◌, ltb, length, get_or, set, replicate, Some, None, Ok, Err, Option, Result, sym, refl, ap, ◌∙◌, subst, ⊎_elim, arith}
 use Rattle.std.proofs.lemmas.List.{get_or-set_same, get_or-set_other}
 use Rattle.std.proofs.lemmas.Bool.{cases_Bool, and_parts, ltb-true, lt-ltb, cond_both}
 use Rattle.interface.specs.Answers.{kind_number, kind_numbered}
@@ -44,22 +44,20 @@ is_drawn arrows new from kind m to =
     (ltb-true from 16 (and_parts _ _ b).0, rest.0, rest.1))
     (λ _ e. absurd (refused NoSuchBox arrows new e))
 
+-- the numbers of the kinds are 2 to 4
+kind_range : (kind : QuestionKind) → (2 ≤ kind_number kind) × (kind_number kind ≤ 4)
+kind_range Before = (omega arith, omega arith)
+kind_range After = (omega arith, omega arith)
+kind_range Except = (omega arith, omega arith)
+
 slot_inside : (from : ℕ) (kind : QuestionKind) (m : ℕ) → from < 16 → m < 32 → slot from kind m < 1536
-slot_inside from Before m l h = omega arith
-slot_inside from After m l h = omega arith
-slot_inside from Except m l h = omega arith
+slot_inside from kind m l h = omega (arith, kind_range kind)
 
 -- two arrows with one place are one
 slot_same : (from from' : ℕ) (kind kind' : QuestionKind) (m m' : ℕ) → m < 32 → m' < 32 → slot from kind m ≡ slot from' kind' m' → (from ≡ from') × (kind_number kind ≡ kind_number kind') × (m ≡ m')
-slot_same from from' Before Before m m' l h e = (omega arith, refl, omega arith)
-slot_same from from' Before After m m' l h e = absurd (omega arith)
-slot_same from from' Before Except m m' l h e = absurd (omega arith)
-slot_same from from' After Before m m' l h e = absurd (omega arith)
-slot_same from from' After After m m' l h e = (omega arith, refl, omega arith)
-slot_same from from' After Except m m' l h e = absurd (omega arith)
-slot_same from from' Except Before m m' l h e = absurd (omega arith)
-slot_same from from' Except After m m' l h e = absurd (omega arith)
-slot_same from from' Except Except m m' l h e = (omega arith, refl, omega arith)
+slot_same from from' kind kind' m m' l h e =
+    let k = kind_range kind in let k' = kind_range kind' in
+    (omega arith, omega arith, omega arith)
 
 slots_apart : (from from' : ℕ) (kind kind' : QuestionKind) (m m' : ℕ) → m < 32 → m' < 32 → Apart from kind m from' kind' m' → slot from' kind' m' ≡ slot from kind m → ⊥
 slots_apart from from' kind kind' m m' l h apart e =
