@@ -1,9 +1,9 @@
 -- The sheet that a stored one holds. Assumes nothing.
-use Rattle.std.specs.Prelude.{ℕ, zero, suc, List, [], ◌∷◌, drop, vec_items}
+use Rattle.std.specs.Prelude.{ℕ, zero, suc, List, [], ◌∷◌, drop}
 use Rattle.std.specs.List.{between}
 use Rattle.sheet.specs.View.{Method, Sheet, no_shape}
 use Rattle.sheet_store.specs.declared.stored.Header.{Header}
-use Rattle.sheet_store.specs.declared.stored.StoredSheet.{StoredSheet}
+use Rattle.sheet.specs.declared.records.Signature.{Signature}
 
 -- the method of the last header: what stands behind its beginnings
 abbrev pub rest : {I H : Type 0} → Header → List I → List H → Method I H
@@ -19,13 +19,9 @@ cut [] c x = []
 cut (h ∷ []) c x = rest h c x ∷ []
 cut (h ∷ (k ∷ hs)) c x = upto h k c x ∷ cut (k ∷ hs) c x
 
--- the own methods of a stored sheet
-abbrev pub methods_of : {I H : Type 0} → StoredSheet I H → List (Method I H)
-methods_of s = cut (vec_items s.methods) (vec_items s.code) (vec_items s.handlers)
-
--- the sheet that is stored
-abbrev pub sheet_of : {I H : Type 0} → StoredSheet I H → Sheet I H
-sheet_of s = record { library = vec_items s.library; methods = methods_of s }
+-- the sheet that is stored as a library, headers, and the instructions and handlers of all methods
+abbrev pub sheet_in : {I H : Type 0} → List Signature → List Header → List I → List H → Sheet I H
+sheet_in library headers c x = record { library = library; methods = cut headers c x }
 
 -- the header of the last method
 abbrev pub last_of : List Header → Header

@@ -5,7 +5,7 @@ ghost use Rattle.std.specs.Option.{option_map};
 ghost use Rattle.sheet.specs.View.{empty_sheet, with_library, with_methods, on_last, with_code, with_handlers, pushed, bare, instructions_in, handlers_in, method_at, last_method};
 ghost use Rattle.sheet.specs.Reading.{none};
 ghost use Rattle.sheet_store.specs.Adding.{AddRefused, NoRoom, whole};
-ghost use Rattle.sheet_store.specs.Stored.{sheet_of, methods_of, code_begin, handler_begin};
+ghost use Rattle.sheet_store.specs.Stored.{code_begin, handler_begin};
 
 use crate::stored::{AddFault, Header, StoredSheet};
 use sheet::records::{Shape, Signature};
@@ -14,7 +14,7 @@ use std::alloc::{AllocError, Global};
 impl<I: Copy, H: Copy> StoredSheet<I, H> {
     // An empty sheet, with memory for the largest.
     pub fn new(heap: Global) -> Result<StoredSheet<I, H>, AllocError>
-        ensures { IfOk result (λ s. sheet_of s ≡ empty_sheet) }
+        ensures { IfOk result (λ s. s ≡ empty_sheet) }
     {
         let library = Vec::with_capacity(heap, 32)?;
         let methods = Vec::with_capacity(heap, 16)?;
@@ -30,7 +30,7 @@ impl<I: Copy, H: Copy> StoredSheet<I, H> {
 
     // Takes everything out again; the memory stays.
     pub fn clear(&mut self)
-        ensures { sheet_of self.new ≡ empty_sheet }
+        ensures { self.new ≡ empty_sheet }
     {
         self.library.clear();
         self.methods.clear();
@@ -40,35 +40,35 @@ impl<I: Copy, H: Copy> StoredSheet<I, H> {
 
     // The library methods.
     pub fn library(&self) -> &[Signature]
-        ensures { (result.now ≡ (sheet_of self.now).library) × (length result.now ≤ 32) }
+        ensures { (result.now ≡ self.now.library) × (length result.now ≤ 32) }
     {
         &self.library[..]
     }
 
     // How many own methods there are.
     pub fn method_count(&self) -> usize
-        ensures { (result ≡ length (methods_of self.now)) × (result ≤ 16) }
+        ensures { (result ≡ length self.now.methods) × (result ≤ 16) }
     {
         self.methods.len()
     }
 
     // How many instructions there are, in all methods.
     pub fn instruction_count(&self) -> usize
-        ensures { (result ≡ instructions_in (methods_of self.now)) × (result ≤ 2048) }
+        ensures { (result ≡ instructions_in self.now.methods) × (result ≤ 2048) }
     {
         self.code.len()
     }
 
     // How many handlers there are, in all methods.
     pub fn handler_count(&self) -> usize
-        ensures { (result ≡ handlers_in (methods_of self.now)) × (result ≤ 256) }
+        ensures { (result ≡ handlers_in self.now.methods) × (result ≤ 256) }
     {
         self.handlers.len()
     }
 
     // One library method more; a sheet that has no place for it is left as it is.
     pub fn add_signature(&mut self, signature: Signature) -> Result<(), AddFault>
-        ensures { MatchResult result (λ _. (length (sheet_of self.old).library < 32) × (sheet_of self.new ≡ with_library (pushed signature (sheet_of self.old).library) (sheet_of self.old))) (λ e. (e ≡ AddFault.Full) × (length (sheet_of self.old).library ≡ 32) × (self.new ≡ self.old)) }
+        ensures { MatchResult result (λ _. (length self.old.library < 32) × (self.new ≡ with_library (pushed signature self.old.library) self.old)) (λ e. (e ≡ AddFault.Full) × (length self.old.library ≡ 32) × (self.new ≡ self.old)) }
     {
         if self.library.len() >= 32 {
             return Err(AddFault::Full);
@@ -79,7 +79,7 @@ impl<I: Copy, H: Copy> StoredSheet<I, H> {
 
     // One own method more, without instructions and handlers; a sheet that has no place for it is left as it is.
     pub fn add_method(&mut self, shape: Shape) -> Result<(), AddFault>
-        ensures { MatchResult result (λ _. (length (methods_of self.old) < 16) × (sheet_of self.new ≡ with_methods (pushed (bare shape) (methods_of self.old)) (sheet_of self.old))) (λ e. (e ≡ AddFault.Full) × (length (methods_of self.old) ≡ 16) × (self.new ≡ self.old)) }
+        ensures { MatchResult result (λ _. (length self.old.methods < 16) × (self.new ≡ with_methods (pushed (bare shape) self.old.methods) self.old)) (λ e. (e ≡ AddFault.Full) × (length self.old.methods ≡ 16) × (self.new ≡ self.old)) }
     {
         if self.methods.len() >= 16 {
             return Err(AddFault::Full);
@@ -96,7 +96,7 @@ impl<I: Copy, H: Copy> StoredSheet<I, H> {
 
     // One instruction more in the last method; a sheet without a method, or without a place for it, is left as it is.
     pub fn add_instruction(&mut self, instruction: I) -> Result<(), AddFault>
-        ensures { MatchResult result (λ _. (0 < length (methods_of self.old)) × (instructions_in (methods_of self.old) < 2048) × (sheet_of self.new ≡ with_methods (on_last (with_code (pushed instruction)) (methods_of self.old)) (sheet_of self.old))) (λ e. AddRefused e (length (methods_of self.old)) (instructions_in (methods_of self.old)) 2048 × (self.new ≡ self.old)) }
+        ensures { MatchResult result (λ _. (0 < length self.old.methods) × (instructions_in self.old.methods < 2048) × (self.new ≡ with_methods (on_last (with_code (pushed instruction)) self.old.methods) self.old)) (λ e. AddRefused e (length self.old.methods) (instructions_in self.old.methods) 2048 × (self.new ≡ self.old)) }
     {
         if self.methods.len() == 0 {
             return Err(AddFault::NoMethod);
@@ -110,7 +110,7 @@ impl<I: Copy, H: Copy> StoredSheet<I, H> {
 
     // One handler more in the last method; a sheet without a method, or without a place for it, is left as it is.
     pub fn add_handler(&mut self, handler: H) -> Result<(), AddFault>
-        ensures { MatchResult result (λ _. (0 < length (methods_of self.old)) × (handlers_in (methods_of self.old) < 256) × (sheet_of self.new ≡ with_methods (on_last (with_handlers (pushed handler)) (methods_of self.old)) (sheet_of self.old))) (λ e. AddRefused e (length (methods_of self.old)) (handlers_in (methods_of self.old)) 256 × (self.new ≡ self.old)) }
+        ensures { MatchResult result (λ _. (0 < length self.old.methods) × (handlers_in self.old.methods < 256) × (self.new ≡ with_methods (on_last (with_handlers (pushed handler)) self.old.methods) self.old)) (λ e. AddRefused e (length self.old.methods) (handlers_in self.old.methods) 256 × (self.new ≡ self.old)) }
     {
         if self.methods.len() == 0 {
             return Err(AddFault::NoMethod);
@@ -124,7 +124,7 @@ impl<I: Copy, H: Copy> StoredSheet<I, H> {
 
     // One own method more, with its instructions and handlers; a sheet that has no place for them is left as it is.
     pub fn add_whole(&mut self, shape: Shape, code: &[I], handlers: &[H]) -> Result<(), AddFault>
-        ensures { MatchResult result (λ _. sheet_of self.new ≡ with_methods (pushed (whole shape code.now handlers.now) (methods_of self.old)) (sheet_of self.old)) (λ e. (e ≡ AddFault.Full) × NoRoom (methods_of self.old) (length code.now) (length handlers.now) × (self.new ≡ self.old)) }
+        ensures { MatchResult result (λ _. self.new ≡ with_methods (pushed (whole shape code.now handlers.now) self.old.methods) self.old) (λ e. (e ≡ AddFault.Full) × NoRoom self.old.methods (length code.now) (length handlers.now) × (self.new ≡ self.old)) }
     {
         if self.methods.len() >= 16 {
             return Err(AddFault::Full);
@@ -149,7 +149,7 @@ impl<I: Copy, H: Copy> StoredSheet<I, H> {
 
     // Empty but for this library; a library that is too large leaves the sheet as it is.
     pub fn restart(&mut self, library: &[Signature]) -> Result<(), AddFault>
-        ensures { MatchResult result (λ _. sheet_of self.new ≡ record { library = library.entry.now; methods = [] }) (λ e. (e ≡ AddFault.Full) × (32 < length library.entry.now) × (self.new ≡ self.old)) }
+        ensures { MatchResult result (λ _. self.new ≡ record { library = library.entry.now; methods = [] }) (λ e. (e ≡ AddFault.Full) × (32 < length library.entry.now) × (self.new ≡ self.old)) }
     {
         if library.len() > 32 {
             return Err(AddFault::Full);
@@ -161,7 +161,7 @@ impl<I: Copy, H: Copy> StoredSheet<I, H> {
 
     // Whether the last method has no handler; true where there is no method.
     pub fn last_has_no_handler(&self) -> bool
-        ensures { result ≡ none (last_method (methods_of self.now)).handlers }
+        ensures { result ≡ none (last_method self.now.methods).handlers }
     {
         match self.methods.last() {
             Some(header) => header.guard == self.handlers.len(),
@@ -171,7 +171,7 @@ impl<I: Copy, H: Copy> StoredSheet<I, H> {
 
     // The own method of this number, without its instructions and handlers.
     pub fn shape(&self, method: usize) -> Option<Shape>
-        ensures { result ≡ option_map (λ m. m.shape) (slice_get (methods_of self.now) method) }
+        ensures { result ≡ option_map (λ m. m.shape) (slice_get self.now.methods method) }
     {
         let header = self.methods.get(method)?;
         Some(header.shape)
@@ -199,7 +199,7 @@ impl<I: Copy, H: Copy> StoredSheet<I, H> {
 
     // From where to where the code of a method stands.
     fn code_part(&self, method: usize) -> (usize, usize)
-        ensures { (result.0 ≤ result.1) × ((result.1 ≤ vec_len self.now.code) × (between result.0 result.1 self.now.code.items ≡ (method_at (sheet_of self.now) method).code)) }
+        ensures { (result.0 ≤ result.1) × ((result.1 ≤ vec_len self.now.code) × (between result.0 result.1 self.now.code.items ≡ (method_at self.now method).code)) }
     {
         if method < self.methods.len() {
             (self.code_begin(method), self.code_begin(method + 1))
@@ -210,7 +210,7 @@ impl<I: Copy, H: Copy> StoredSheet<I, H> {
 
     // From where to where the handlers of a method stand.
     fn handler_part(&self, method: usize) -> (usize, usize)
-        ensures { (result.0 ≤ result.1) × ((result.1 ≤ vec_len self.now.handlers) × (between result.0 result.1 self.now.handlers.items ≡ (method_at (sheet_of self.now) method).handlers)) }
+        ensures { (result.0 ≤ result.1) × ((result.1 ≤ vec_len self.now.handlers) × (between result.0 result.1 self.now.handlers.items ≡ (method_at self.now method).handlers)) }
     {
         if method < self.methods.len() {
             (self.handler_begin(method), self.handler_begin(method + 1))
@@ -221,7 +221,7 @@ impl<I: Copy, H: Copy> StoredSheet<I, H> {
 
     // The instructions of the own method of this number; none where there is no such method.
     pub fn code(&self, method: usize) -> &[I]
-        ensures { result.now ≡ (method_at (sheet_of self.now) method).code }
+        ensures { result.now ≡ (method_at self.now method).code }
     {
         let (begin, end) = self.code_part(method);
         &self.code[begin..end]
@@ -229,7 +229,7 @@ impl<I: Copy, H: Copy> StoredSheet<I, H> {
 
     // The handlers of the own method of this number; none where there is no such method.
     pub fn handlers(&self, method: usize) -> &[H]
-        ensures { result.now ≡ (method_at (sheet_of self.now) method).handlers }
+        ensures { result.now ≡ (method_at self.now method).handlers }
     {
         let (begin, end) = self.handler_part(method);
         &self.handlers[begin..end]

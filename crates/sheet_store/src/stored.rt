@@ -1,7 +1,5 @@
-ghost use Rattle.std.specs.Prelude.{◌≡◌, ◌≤◌, true, vec_len, vec_capacity};
-ghost use Rattle.sheet_store.specs.Tiles.{ordered, code_start, handler_start};
-
 use sheet::records::{Shape, Signature};
+use std::marker::Model;
 
 // An own method in storage: where its code and its handlers begin. They end where the next method's begin.
 #[derive(Clone, Copy)]
@@ -21,15 +19,24 @@ pub enum AddFault {
 }
 
 // A sheet in memory that is reserved for the largest one, so that nothing after the making can want memory.
-// Its instructions are of one sort `I` and its handlers of one sort `H`.
+// Its instructions are of one sort `I` and its handlers of one sort `H`. Contracts see it as the sheet that it holds.
 #[derive(Drop)]
 pub struct StoredSheet<I, H> {
     pub(crate) library: Vec<Signature>,
     pub(crate) methods: Vec<Header>,
     pub(crate) code: Vec<I>,
     pub(crate) handlers: Vec<H>,
-    ghost room: { (32 ≤ vec_capacity library) × (16 ≤ vec_capacity methods) × (2048 ≤ vec_capacity code) × (256 ≤ vec_capacity handlers) },
-    ghost counts: { (vec_len library ≤ 32) × (vec_len methods ≤ 16) × (vec_len code ≤ 2048) × (vec_len handlers ≤ 256) },
-    ghost tiled: { ordered methods.items (vec_len code) (vec_len handlers) ≡ true },
-    ghost begun: { (code_start methods.items (vec_len code) ≡ 0) × (handler_start methods.items (vec_len handlers) ≡ 0) },
+}
+
+impl<I, H> Model for StoredSheet<I, H> {
+    ghost use Rattle.std.specs.Prelude.{◌≤◌, vec_len, vec_capacity};
+    ghost use Rattle.sheet.specs.View.{Sheet};
+    ghost use Rattle.sheet_store.specs.Stored.{sheet_in};
+    ghost use Rattle.sheet_store.specs.Tiles.{IsTiled};
+
+    ghost Value = { Sheet I H };
+
+    ghost view = { λ s. sheet_in s.library.items s.methods.items s.code.items s.handlers.items };
+
+    ghost invariant = { λ s. (32 ≤ vec_capacity s.library) × (16 ≤ vec_capacity s.methods) × (2048 ≤ vec_capacity s.code) × (256 ≤ vec_capacity s.handlers) × (vec_len s.library ≤ 32) × (vec_len s.methods ≤ 16) × (vec_len s.code ≤ 2048) × (vec_len s.handlers ≤ 256) × IsTiled s.methods.items (vec_len s.code) (vec_len s.handlers) };
 }

@@ -6,7 +6,6 @@ ghost use Rattle.sheet.specs.Laws.{OneText};
 ghost use Rattle.sheet.specs.declared.faults.SheetFault.TheVariants.{Line as AtLine};
 ghost use Rattle.sheet.specs.declared.records.Line.TheVariants.{Library, Method, Instruction, Handler as OfHandler};
 ghost use Rattle.sheet.specs.View.{empty_sheet};
-ghost use Rattle.sheet_store.specs.Stored.{sheet_of};
 ghost use Rattle.sheet_text.specs.Taking.{Taken};
 
 use crate::line::read_line;
@@ -23,7 +22,7 @@ pub type TextSheet = StoredSheet<ReadInstruction, Handler<PlainLocation>>;
 
 // A library method, which stands ahead of all own methods.
 fn take_signature(sheet: &mut TextSheet, signature: Signature) -> Result<(), LineFault>
-    ensures { Taken (sheet_of sheet.old) (Library signature) result (sheet_of sheet.new) }
+    ensures { Taken sheet.old (Library signature) result sheet.new }
 {
     if sheet.method_count() > 0 {
         return Err(LineFault::Order(OrderFault::LibraryBehindMethod));
@@ -36,7 +35,7 @@ fn take_signature(sheet: &mut TextSheet, signature: Signature) -> Result<(), Lin
 
 // An own method.
 fn take_shape(sheet: &mut TextSheet, shape: Shape) -> Result<(), LineFault>
-    ensures { Taken (sheet_of sheet.old) (Method shape) result (sheet_of sheet.new) }
+    ensures { Taken sheet.old (Method shape) result sheet.new }
 {
     match sheet.add_method(shape) {
         Ok(()) => Ok(()),
@@ -46,7 +45,7 @@ fn take_shape(sheet: &mut TextSheet, shape: Shape) -> Result<(), LineFault>
 
 // An instruction of the last method, which stands ahead of the handlers of that method.
 fn take_instruction(sheet: &mut TextSheet, instruction: ReadInstruction) -> Result<(), LineFault>
-    ensures { Taken (sheet_of sheet.old) (Instruction instruction) result (sheet_of sheet.new) }
+    ensures { Taken sheet.old (Instruction instruction) result sheet.new }
 {
     if !sheet.last_has_no_handler() {
         return Err(LineFault::Order(OrderFault::InstructionBehindHandler));
@@ -60,7 +59,7 @@ fn take_instruction(sheet: &mut TextSheet, instruction: ReadInstruction) -> Resu
 
 // A handler of the last method.
 fn take_handler(sheet: &mut TextSheet, handler: Handler<PlainLocation>) -> Result<(), LineFault>
-    ensures { Taken (sheet_of sheet.old) (OfHandler handler) result (sheet_of sheet.new) }
+    ensures { Taken sheet.old (OfHandler handler) result sheet.new }
 {
     match sheet.add_handler(handler) {
         Ok(()) => Ok(()),
@@ -71,7 +70,7 @@ fn take_handler(sheet: &mut TextSheet, handler: Handler<PlainLocation>) -> Resul
 
 // A line behind those that were taken.
 fn take_line(sheet: &mut TextSheet, line: &[u8]) -> Result<(), LineFault>
-    ensures { MatchResult result (λ _. line_taken (sheet_of sheet.old) line.now ≡ Ok (sheet_of sheet.new)) (λ e. line_taken (sheet_of sheet.old) line.now ≡ Err e) }
+    ensures { MatchResult result (λ _. line_taken sheet.old line.now ≡ Ok sheet.new) (λ e. line_taken sheet.old line.now ≡ Err e) }
 {
     match read_line(line)? {
         Line::Library(signature) => take_signature(sheet, signature),
@@ -93,8 +92,8 @@ fn located(taken: Result<(), LineFault>, line: usize) -> Result<(), SheetFault>
 
 // Takes all lines of a text, up to the first that is refused.
 fn take_lines(sheet: &mut TextSheet, text: &[u8]) -> Result<(), SheetFault>
-    requires { sheet_of sheet.old ≡ empty_sheet }
-    ensures { MatchResult result (λ _. reading text.now ≡ Ok (sheet_of sheet.new)) (λ e. reading text.now ≡ Err e) }
+    requires { sheet.old ≡ empty_sheet }
+    ensures { MatchResult result (λ _. reading text.now ≡ Ok sheet.new) (λ e. reading text.now ≡ Err e) }
 {
     let mut rest = text;
     let mut number = 0usize;
@@ -109,7 +108,7 @@ fn take_lines(sheet: &mut TextSheet, text: &[u8]) -> Result<(), SheetFault>
 
 // Reads a text into a sheet; a sheet that refuses is left empty.
 fn fill(sheet: &mut TextSheet, text: &[u8]) -> Result<(), SheetFault>
-    ensures { MatchResult result (λ _. reading text.now ≡ Ok (sheet_of sheet.new)) (λ e. (reading text.now ≡ Err e) × (sheet_of sheet.new ≡ empty_sheet)) }
+    ensures { MatchResult result (λ _. reading text.now ≡ Ok sheet.new) (λ e. (reading text.now ≡ Err e) × (sheet.new ≡ empty_sheet)) }
 {
     sheet.clear();
     let taken = take_lines(sheet, text);
@@ -122,7 +121,7 @@ fn fill(sheet: &mut TextSheet, text: &[u8]) -> Result<(), SheetFault>
 impl ReadSheet {
     // An empty sheet, with memory for the largest: the only call that can want memory.
     pub fn new(heap: Global) -> Result<ReadSheet, AllocError>
-        ensures { IfOk result (λ s. sheet_of s.stored ≡ empty_sheet) }
+        ensures { IfOk result (λ s. s ≡ empty_sheet) }
     {
         let stored = StoredSheet::new(heap)?;
         Ok(ReadSheet { stored })
@@ -130,7 +129,7 @@ impl ReadSheet {
 
     // Reads a text in the place of what was there. A refused reading leaves the sheet empty.
     pub fn read(&mut self, text: &[u8]) -> Result<(), SheetFault>
-        ensures answer { MatchResult result (λ _. reading text.now ≡ Ok (sheet_of self.new.stored)) (λ e. (reading text.now ≡ Err e) × (sheet_of self.new.stored ≡ empty_sheet)) }
+        ensures answer { MatchResult result (λ _. reading text.now ≡ Ok self.new) (λ e. (reading text.now ≡ Err e) × (self.new ≡ empty_sheet)) }
         ensures one_text { (s : SheetOfText) → OneText text.now s }
     {
         fill(&mut self.stored, text)
@@ -138,7 +137,7 @@ impl ReadSheet {
 
     // The sheet, to look at.
     pub fn contents(&self) -> &TextSheet
-        ensures { (result.now ≡ self.now.stored) × (in_range (sheet_of result.now) ≡ true) }
+        ensures { (result.now ≡ self.now) × (in_range result.now ≡ true) }
     {
         &self.stored
     }

@@ -6,7 +6,6 @@ ghost use Rattle.sheet.specs.Columns.{column};
 ghost use Rattle.sheet.specs.Reading.{reading};
 ghost use Rattle.sheet.specs.Text.{count, placed, line_text, signature_text, shape_text, instruction_text, handler_text, method_text, sheet_text};
 ghost use Rattle.sheet.specs.View.{method_at};
-ghost use Rattle.sheet_store.specs.Stored.{sheet_of, methods_of};
 ghost use Rattle.sheet_text.specs.Pieces.{count_line};
 ghost use Rattle.sheet.specs.declared.faults.SheetFault.TheVariants.{ShortBuffer};
 ghost use Rattle.sheet.specs.declared.fields.Letter.TheVariants.{I};
@@ -152,9 +151,9 @@ impl Piece for Handler<PlainLocation> {
 
 // Writes an own method with its instructions and handlers.
 fn put_method(sheet: &TextSheet, method: usize, shape: Shape, out: &mut [u8], at: usize) -> usize
-    requires own_shape { shape ≡ (method_at (sheet_of sheet.now) method).shape }
-    requires room { at + length (method_text (method_at (sheet_of sheet.now) method)) ≤ length out.old }
-    ensures { (result ≡ at + length (method_text (method_at (sheet_of sheet.now) method))) × (out.new ≡ placed at (method_text (method_at (sheet_of sheet.now) method)) out.old) }
+    requires own_shape { shape ≡ (method_at sheet.now method).shape }
+    requires room { at + length (method_text (method_at sheet.now method)) ≤ length out.old }
+    ensures { (result ≡ at + length (method_text (method_at sheet.now method))) × (out.new ≡ placed at (method_text (method_at sheet.now method)) out.old) }
 {
     let code = shape.put(out, at);
     let handlers = put_all(sheet.code(method), out, code);
@@ -163,8 +162,8 @@ fn put_method(sheet: &TextSheet, method: usize, shape: Shape, out: &mut [u8], at
 
 // Writes all own methods.
 fn put_methods(sheet: &TextSheet, out: &mut [u8], at: usize) -> usize
-    requires { at + length (flat_map method_text (methods_of sheet.now)) ≤ length out.old }
-    ensures { (result ≡ at + length (flat_map method_text (methods_of sheet.now))) × (out.new ≡ placed at (flat_map method_text (methods_of sheet.now)) out.old) }
+    requires { at + length (flat_map method_text sheet.now.methods) ≤ length out.old }
+    ensures { (result ≡ at + length (flat_map method_text sheet.now.methods)) × (out.new ≡ placed at (flat_map method_text sheet.now.methods) out.old) }
 {
     let mut next = at;
     for method in 0..sheet.method_count() {
@@ -177,7 +176,7 @@ fn put_methods(sheet: &TextSheet, out: &mut [u8], at: usize) -> usize
 impl ReadSheet {
     // How long the text of the sheet is.
     pub fn text_length(&self) -> usize
-        ensures { result ≡ length (sheet_text (sheet_of self.now.stored)) }
+        ensures { result ≡ length (sheet_text self.now) }
     {
         let sheet = &self.stored;
         20 * sheet.library().len()
@@ -188,8 +187,8 @@ impl ReadSheet {
 
     // Writes the text of the sheet to the start of a buffer, and says how long it is. A buffer that is too short is left as it is.
     pub fn write(&self, out: &mut [u8]) -> Result<usize, SheetFault>
-        ensures answer { MatchResult result (λ n. (n ≡ length (sheet_text (sheet_of self.now.stored))) × (out.new ≡ placed 0 (sheet_text (sheet_of self.now.stored)) out.old)) (λ e. (e ≡ ShortBuffer) × (length out.old < length (sheet_text (sheet_of self.now.stored))) × (out.new ≡ out.old)) }
-        ensures read_back { reading (sheet_text (sheet_of self.now.stored)) ≡ Ok (sheet_of self.now.stored) }
+        ensures answer { MatchResult result (λ n. (n ≡ length (sheet_text self.now)) × (out.new ≡ placed 0 (sheet_text self.now) out.old)) (λ e. (e ≡ ShortBuffer) × (length out.old < length (sheet_text self.now)) × (out.new ≡ out.old)) }
+        ensures read_back { reading (sheet_text self.now) ≡ Ok self.now }
     {
         if out.len() < self.text_length() {
             return Err(SheetFault::ShortBuffer);
