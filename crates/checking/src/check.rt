@@ -2,7 +2,6 @@
 ghost use Rattle.std.specs.Prelude.{◌≡◌, ℕ, ◌+◌, ◌<◌, ◌≤◌, true, List, [], map, length, IfOk, Ok, Err, MatchResult, slice_index_or};
 ghost use Rattle.sheet.specs.Bounds.{in_range};
 ghost use Rattle.sheet.specs.View.{empty_sheet, method_at, instructions_in, handlers_in, no_shape};
-ghost use Rattle.sheet_store.specs.Stored.{sheet_of, methods_of};
 ghost use Rattle.check_rules.specs.Check.{CheckedForm, method_checked, methods_checked, checked, shapes_of};
 ghost use Rattle.check_rules.specs.CheckLaws.{SheetLaw};
 ghost use Rattle.checking.specs.Methods.{Grown, AllMade, AllChecked};
@@ -29,14 +28,14 @@ fn check_in<'a>(
     buffer: &mut [Instruction<PlainLocation>],
 ) -> Result<(), MethodFault>
     requires few_shapes { length shapes.now ≤ 16 }
-    requires buffer_fits { length (method_at (sheet_of read.now) method).code ≡ length buffer.old }
+    requires buffer_fits { length (method_at read.now method).code ≡ length buffer.old }
     requires few_instructions { length buffer.old ≤ 2048 }
-    requires own_shape { slice_index_or shapes.now method no_shape ≡ (method_at (sheet_of read.now) method).shape }
+    requires own_shape { slice_index_or shapes.now method no_shape ≡ (method_at read.now method).shape }
     requires method_exists { method < length shapes.now }
-    requires method_room { length (methods_of out.old) < 16 }
-    requires code_room { instructions_in (methods_of out.old) + length buffer.old ≤ 2048 }
-    requires handler_room { handlers_in (methods_of out.old) + length (method_at (sheet_of read.now) method).handlers ≤ 256 }
-    ensures { MatchResult result (λ _. Grown (sheet_of read.now).library shapes.now (method_at (sheet_of read.now) method) (sheet_of out.old) (sheet_of out.new)) (λ e. method_checked (sheet_of read.now).library shapes.now (method_at (sheet_of read.now) method) ≡ Err e) }
+    requires method_room { length out.old.methods < 16 }
+    requires code_room { instructions_in out.old.methods + length buffer.old ≤ 2048 }
+    requires handler_room { handlers_in out.old.methods + length (method_at read.now method).handlers ≤ 256 }
+    ensures { MatchResult result (λ _. Grown read.now.library shapes.now (method_at read.now method) out.old out.new) (λ e. method_checked read.now.library shapes.now (method_at read.now method) ≡ Err e) }
 {
     let own = shapes[method];
     let code = read.code(method);
@@ -62,13 +61,13 @@ fn check_one(
     out: &mut CheckedStore,
 ) -> Result<(), MethodFault>
     requires few_shapes { length shapes.now ≤ 16 }
-    requires few_instructions { length (method_at (sheet_of read.now) method).code ≤ 2048 }
-    requires own_shape { slice_index_or shapes.now method no_shape ≡ (method_at (sheet_of read.now) method).shape }
+    requires few_instructions { length (method_at read.now method).code ≤ 2048 }
+    requires own_shape { slice_index_or shapes.now method no_shape ≡ (method_at read.now method).shape }
     requires method_exists { method < length shapes.now }
-    requires method_room { length (methods_of out.old) < 16 }
-    requires code_room { instructions_in (methods_of out.old) + length (method_at (sheet_of read.now) method).code ≤ 2048 }
-    requires handler_room { handlers_in (methods_of out.old) + length (method_at (sheet_of read.now) method).handlers ≤ 256 }
-    ensures { MatchResult result (λ _. Grown (sheet_of read.now).library shapes.now (method_at (sheet_of read.now) method) (sheet_of out.old) (sheet_of out.new)) (λ e. method_checked (sheet_of read.now).library shapes.now (method_at (sheet_of read.now) method) ≡ Err e) }
+    requires method_room { length out.old.methods < 16 }
+    requires code_room { instructions_in out.old.methods + length (method_at read.now method).code ≤ 2048 }
+    requires handler_room { handlers_in out.old.methods + length (method_at read.now method).handlers ≤ 256 }
+    ensures { MatchResult result (λ _. Grown read.now.library shapes.now (method_at read.now method) out.old out.new) (λ e. method_checked read.now.library shapes.now (method_at read.now method) ≡ Err e) }
 {
     let mut buffer = [Instruction::Return; 2048];
     let count = read.code(method).len();
@@ -77,8 +76,8 @@ fn check_one(
 
 // The shapes of all own methods of a sheet.
 fn collect_shapes(read: &TextSheet, shapes: &mut [Shape])
-    requires { length shapes.old ≡ length (methods_of read.now) }
-    ensures { shapes.new ≡ shapes_of (methods_of read.now) }
+    requires { length shapes.old ≡ length read.now.methods }
+    ensures { shapes.new ≡ shapes_of read.now.methods }
 {
     for method in 0..shapes.len() {
         shapes[method] = read.shape(method).unwrap();
@@ -101,12 +100,12 @@ fn check_methods(
     shapes: &[Shape],
     out: &mut CheckedStore,
 ) -> Result<(), CheckFault>
-    requires own_shapes { shapes.now ≡ shapes_of (methods_of read.now) }
-    requires fresh_out { sheet_of out.old ≡ record { library = (sheet_of read.now).library; methods = [] } }
-    requires few_methods { length (methods_of read.now) ≤ 16 }
-    requires few_instructions { instructions_in (methods_of read.now) ≤ 2048 }
-    requires few_handlers { handlers_in (methods_of read.now) ≤ 256 }
-    ensures { MatchResult result (λ _. AllMade (sheet_of read.now) (sheet_of out.new)) (λ e. methods_checked (sheet_of read.now).library (shapes_of (methods_of read.now)) 0 (methods_of read.now) ≡ Err e) }
+    requires own_shapes { shapes.now ≡ shapes_of read.now.methods }
+    requires fresh_out { out.old ≡ record { library = read.now.library; methods = [] } }
+    requires few_methods { length read.now.methods ≤ 16 }
+    requires few_instructions { instructions_in read.now.methods ≤ 2048 }
+    requires few_handlers { handlers_in read.now.methods ≤ 256 }
+    ensures { MatchResult result (λ _. AllMade read.now out.new) (λ e. methods_checked read.now.library (shapes_of read.now.methods) 0 read.now.methods ≡ Err e) }
 {
     for method in 0..read.method_count() {
         located(check_one(read, method, shapes, out), method)?;
@@ -120,10 +119,10 @@ fn check_listed(
     shapes: &mut [Shape],
     out: &mut CheckedStore,
 ) -> Result<(), CheckFault>
-    requires shape_each { length shapes.old ≡ length (methods_of read.now) }
-    requires fresh_out { sheet_of out.old ≡ record { library = (sheet_of read.now).library; methods = [] } }
-    requires read_in_range { in_range (sheet_of read.now) ≡ true }
-    ensures { MatchResult result (λ _. AllMade (sheet_of read.now) (sheet_of out.new)) (λ e. methods_checked (sheet_of read.now).library (shapes_of (methods_of read.now)) 0 (methods_of read.now) ≡ Err e) }
+    requires shape_each { length shapes.old ≡ length read.now.methods }
+    requires fresh_out { out.old ≡ record { library = read.now.library; methods = [] } }
+    requires read_in_range { in_range read.now ≡ true }
+    ensures { MatchResult result (λ _. AllMade read.now out.new) (λ e. methods_checked read.now.library (shapes_of read.now.methods) 0 read.now.methods ≡ Err e) }
 {
     collect_shapes(read, shapes);
     check_methods(read, shapes, out)
@@ -131,8 +130,8 @@ fn check_listed(
 
 // Checks a sheet in the place of what was there.
 fn check_sheet(read: &TextSheet, out: &mut CheckedStore) -> Result<(), CheckFault>
-    requires { in_range (sheet_of read.now) ≡ true }
-    ensures { MatchResult result (λ _. checked (sheet_of read.now) ≡ Ok (sheet_of out.new)) (λ e. checked (sheet_of read.now) ≡ Err e) }
+    requires { in_range read.now ≡ true }
+    ensures { MatchResult result (λ _. checked read.now ≡ Ok out.new) (λ e. checked read.now ≡ Err e) }
 {
     let count = read.method_count();
     if count == 0 {
@@ -152,8 +151,8 @@ fn check_sheet(read: &TextSheet, out: &mut CheckedStore) -> Result<(), CheckFaul
 
 // Checks a sheet; one that is refused leaves nothing.
 fn fill(read: &TextSheet, out: &mut CheckedStore) -> Result<(), CheckFault>
-    requires { in_range (sheet_of read.now) ≡ true }
-    ensures { MatchResult result (λ _. checked (sheet_of read.now) ≡ Ok (sheet_of out.new)) (λ e. (checked (sheet_of read.now) ≡ Err e) × (sheet_of out.new ≡ empty_sheet)) }
+    requires { in_range read.now ≡ true }
+    ensures { MatchResult result (λ _. checked read.now ≡ Ok out.new) (λ e. (checked read.now ≡ Err e) × (out.new ≡ empty_sheet)) }
 {
     let checked = check_sheet(read, out);
     if checked.is_err() {
@@ -165,7 +164,7 @@ fn fill(read: &TextSheet, out: &mut CheckedStore) -> Result<(), CheckFault>
 impl CheckedSheet {
     // An empty sheet, with memory for the largest: the only call that can want memory.
     pub fn new(heap: Global) -> Result<CheckedSheet, AllocError>
-        ensures { IfOk result (λ s. sheet_of s.stored ≡ empty_sheet) }
+        ensures { IfOk result (λ s. s ≡ empty_sheet) }
     {
         let stored = StoredSheet::new(heap)?;
         Ok(CheckedSheet { stored })
@@ -173,7 +172,7 @@ impl CheckedSheet {
 
     // Checks a read sheet, and holds the checked one in the place of what was there. A refused one leaves the sheet empty.
     pub fn check(&mut self, read: &ReadSheet) -> Result<(), CheckFault>
-        ensures answer { MatchResult result (λ _. checked (sheet_of read.now.stored) ≡ Ok (sheet_of self.new.stored)) (λ e. (checked (sheet_of read.now.stored) ≡ Err e) × (sheet_of self.new.stored ≡ empty_sheet)) }
+        ensures answer { MatchResult result (λ _. checked read.now ≡ Ok self.new) (λ e. (checked read.now ≡ Err e) × (self.new ≡ empty_sheet)) }
         ensures law { (s : CheckedForm) → SheetLaw s }
     {
         fill(read.contents(), &mut self.stored)
@@ -181,7 +180,7 @@ impl CheckedSheet {
 
     // The sheet, to look at.
     pub fn contents(&self) -> &CheckedStore
-        ensures { (result.now ≡ self.now.stored) × (AllChecked (sheet_of result.now)) }
+        ensures { (result.now ≡ self.now) × (AllChecked result.now) }
     {
         &self.stored
     }

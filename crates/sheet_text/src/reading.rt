@@ -3,7 +3,6 @@ ghost use Rattle.std.specs.Prelude.{◌≡◌, Ok, Err, OnOk, OnErr, IfErr};
 ghost use Rattle.sheet.specs.Reading.{line_taken, reading};
 ghost use Rattle.sheet.specs.declared.records.Line.TheVariants.{Library, Method, Instruction, Handler as OfHandler};
 ghost use Rattle.sheet.specs.View.{empty_sheet};
-ghost use Rattle.sheet_store.specs.Stored.{sheet_of};
 ghost use Rattle.sheet_text.specs.Taking.{Taken, not_added};
 
 use crate::line::read_line;
@@ -18,7 +17,7 @@ pub type TextSheet = StoredSheet<ReadInstruction, Handler<PlainLocation>>;
 
 // A library method, which stands ahead of all own methods.
 fn take_signature(sheet: &mut TextSheet, signature: Signature) -> Result<(), LineFault>
-    ensures { Taken (sheet_of sheet.old) (Library signature) result (sheet_of sheet.new) }
+    ensures { Taken sheet.old (Library signature) result sheet.new }
 {
     if sheet.method_count() > 0 {
         return Err(OrderFault::LibraryBehindMethod.into());
@@ -30,7 +29,7 @@ fn take_signature(sheet: &mut TextSheet, signature: Signature) -> Result<(), Lin
 
 // An own method.
 fn take_shape(sheet: &mut TextSheet, shape: Shape) -> Result<(), LineFault>
-    ensures { Taken (sheet_of sheet.old) (Method shape) result (sheet_of sheet.new) }
+    ensures { Taken sheet.old (Method shape) result sheet.new }
 {
     sheet
         .add_method(shape)
@@ -49,7 +48,7 @@ fn refused(fault: AddFault, counted: Counted) -> LineFault
 
 // An instruction of the last method, which stands ahead of the handlers of that method.
 fn take_instruction(sheet: &mut TextSheet, instruction: ReadInstruction) -> Result<(), LineFault>
-    ensures { Taken (sheet_of sheet.old) (Instruction instruction) result (sheet_of sheet.new) }
+    ensures { Taken sheet.old (Instruction instruction) result sheet.new }
 {
     if !sheet.last_has_no_handler() {
         return Err(OrderFault::InstructionBehindHandler.into());
@@ -61,7 +60,7 @@ fn take_instruction(sheet: &mut TextSheet, instruction: ReadInstruction) -> Resu
 
 // A handler of the last method.
 fn take_handler(sheet: &mut TextSheet, handler: Handler<PlainLocation>) -> Result<(), LineFault>
-    ensures { Taken (sheet_of sheet.old) (OfHandler handler) result (sheet_of sheet.new) }
+    ensures { Taken sheet.old (OfHandler handler) result sheet.new }
 {
     sheet
         .add_handler(handler)
@@ -70,8 +69,8 @@ fn take_handler(sheet: &mut TextSheet, handler: Handler<PlainLocation>) -> Resul
 
 // A line behind those that were taken.
 fn take_line(sheet: &mut TextSheet, line: &[u8]) -> Result<(), LineFault>
-    ensures ok { OnOk result (line_taken (sheet_of sheet.old) line.now ≡ Ok (sheet_of sheet.new)) }
-    ensures err { IfErr result (λ e. line_taken (sheet_of sheet.old) line.now ≡ Err e) }
+    ensures ok { OnOk result (line_taken sheet.old line.now ≡ Ok sheet.new) }
+    ensures err { IfErr result (λ e. line_taken sheet.old line.now ≡ Err e) }
 {
     match read_line(line)? {
         Line::Library(signature) => take_signature(sheet, signature),
@@ -83,8 +82,8 @@ fn take_line(sheet: &mut TextSheet, line: &[u8]) -> Result<(), LineFault>
 
 // Takes all lines of a text, up to the first that is refused.
 fn take_lines(sheet: &mut TextSheet, text: &[u8]) -> Result<(), SheetFault>
-    requires { sheet_of sheet.old ≡ empty_sheet }
-    ensures ok { OnOk result (reading text.now ≡ Ok (sheet_of sheet.new)) }
+    requires { sheet.old ≡ empty_sheet }
+    ensures ok { OnOk result (reading text.now ≡ Ok sheet.new) }
     ensures err { IfErr result (λ e. reading text.now ≡ Err e) }
 {
     for (number, line) in Lines::of(text).enumerate() {
@@ -95,9 +94,9 @@ fn take_lines(sheet: &mut TextSheet, text: &[u8]) -> Result<(), SheetFault>
 
 // Reads a text into a sheet; a sheet that refuses is left empty.
 pub(crate) fn fill(sheet: &mut TextSheet, text: &[u8]) -> Result<(), SheetFault>
-    ensures ok { OnOk result (reading text.now ≡ Ok (sheet_of sheet.new)) }
+    ensures ok { OnOk result (reading text.now ≡ Ok sheet.new) }
     ensures err { IfErr result (λ e. reading text.now ≡ Err e) }
-    ensures emptied { OnErr result (sheet_of sheet.new ≡ empty_sheet) }
+    ensures emptied { OnErr result (sheet.new ≡ empty_sheet) }
 {
     sheet.clear();
     let taken = take_lines(sheet, text);

@@ -3,7 +3,6 @@ ghost use Rattle.std.specs.Prelude.{◌≡◌, ◌<◌, length};
 ghost use Rattle.std.specs.List.{flat_map};
 ghost use Rattle.sheet.specs.Text.{signature_text, shape_text, instruction_text, handler_text, method_text};
 ghost use Rattle.sheet.specs.View.{method_at};
-ghost use Rattle.sheet_store.specs.Stored.{sheet_of, methods_of};
 ghost use Rattle.sheet_text.specs.Output.{Fits, Put};
 
 use crate::output::{Output, Piece};
@@ -67,9 +66,9 @@ impl Piece for Handler<PlainLocation> {
 
 // Puts an own method with its instructions and handlers.
 fn put_method(sheet: &TextSheet, method: usize, out: &mut Output<'_>)
-    requires there { method < length (methods_of sheet.now) }
-    requires room { Fits (method_text (method_at (sheet_of sheet.now) method)) out.old }
-    ensures { Put (method_text (method_at (sheet_of sheet.now) method)) out.old out.new }
+    requires there { method < length sheet.now.methods }
+    requires room { Fits (method_text (method_at sheet.now method)) out.old }
+    ensures { Put (method_text (method_at sheet.now method)) out.old out.new }
 {
     let shape = sheet.shape(method).unwrap();
     shape.put(out);
@@ -79,8 +78,8 @@ fn put_method(sheet: &TextSheet, method: usize, out: &mut Output<'_>)
 
 // Puts all own methods.
 pub(crate) fn put_methods(sheet: &TextSheet, out: &mut Output<'_>)
-    requires { Fits (flat_map method_text (methods_of sheet.now)) out.old }
-    ensures { Put (flat_map method_text (methods_of sheet.now)) out.old out.new }
+    requires { Fits (flat_map method_text sheet.now.methods) out.old }
+    ensures { Put (flat_map method_text sheet.now.methods) out.old out.new }
 {
     for method in 0..sheet.method_count() {
         put_method(sheet, method, out);
