@@ -21,12 +21,12 @@ abbrev pub after : {State In Out : Type 0} → (State → In → Out × State) �
 after step s [] = s
 after step s (x ∷ xs) = after step (step s x).1 xs
 
--- equal parties give the same answers to every list of inputs and are equal after it
-abbrev pub StayEqual : {Rule State In Out : Type 0} → (Rule → State → In → Out × State) → Type 0
-StayEqual {Rule} {State} {In} step =
+-- parties with equal rules and states give the same answers to every list of inputs and are equal after it
+abbrev pub StayEqual : {Rule State In Out : Type 0} → (Rule → State → List In → List Out) → (Rule → State → List In → State) → Type 0
+StayEqual {Rule} {State} {In} answers_of state_after =
     (rule₁ rule₂ : Rule) (s₁ s₂ : State) (xs : List In) → Equal rule₁ rule₂ s₁ s₂
-    → (answers (step rule₁) s₁ xs ≡ answers (step rule₂) s₂ xs)
-    × Equal rule₁ rule₂ (after (step rule₁) s₁ xs) (after (step rule₂) s₂ xs)
+    → (answers_of rule₁ s₁ xs ≡ answers_of rule₂ s₂ xs)
+    × Equal rule₁ rule₂ (state_after rule₁ s₁ xs) (state_after rule₂ s₂ xs)
 
 -- a call: a method and its values
 abbrev pub Call : Type 0
@@ -46,7 +46,7 @@ library_after rule = after (library_step rule)
 
 -- equal libraries give the same answers to every list of calls and are equal after it
 abbrev pub LibrariesStayEqual : Type 0 → Type 0
-LibrariesStayEqual State = StayEqual (library_step {State = State})
+LibrariesStayEqual State = StayEqual (library_answers {State = State}) library_after
 
 -- a question: its kind, the method and the values
 abbrev pub Question : Type 0
@@ -66,4 +66,4 @@ policy_after rule = after (policy_step rule)
 
 -- equal policies give the same answers to every list of questions and are equal after it
 abbrev pub PoliciesStayEqual : Type 0 → Type 0
-PoliciesStayEqual State = StayEqual (policy_step {State = State})
+PoliciesStayEqual State = StayEqual (policy_answers {State = State}) policy_after
