@@ -1,6 +1,7 @@
 -- The text of a line has one line feed, at its end, so it is the first line of what it begins. Assumes nothing.
 use Rattle.std.proofs.Common.{◌≡◌, ℕ, zero, suc, ◌+◌, ◌-◌, ◌%◌, ◌^◌, ◌<◌, true, eqb, List, [], ◌∷◌, ◌++◌, length, drop, replicate, ℤ, pos, negsuc, decimal, refl, ap, ◌∙◌, arith}
 use lib.Signed.{mag}
+use Rattle.std.specs.List.{AllByRecursion}
 use Rattle.std.specs.Fmt.{signed_decimal}
 use Rattle.std.proofs.lemmas.Fmt.{decimal_by_steps}
 use Rattle.std.proofs.lemmas.List.{append_assoc, length-append, length_push, take_at, drop_at}
@@ -20,8 +21,7 @@ use Rattle.sheet_laws.proofs.Splits.{lines_first}
 
 -- no byte is a line feed
 abbrev Unbroken : List ℕ → Type 0
-Unbroken [] = Unit {0}
-Unbroken (b ∷ t) = (b ≡ 10 → ⊥) × Unbroken t
+Unbroken = AllByRecursion (λ b. b ≡ 10 → ⊥)
 
 unbroken_both : (s t : List ℕ) → Unbroken s → Unbroken t → Unbroken (s ++ t)
 unbroken_both [] t p q = q

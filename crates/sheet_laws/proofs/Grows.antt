@@ -113,15 +113,12 @@ instructions_handler x (m ∷ []) = refl
 instructions_handler x (m ∷ (n ∷ ms)) = ap (λ k. length m.code + k) (instructions_handler x (n ∷ ms))
 
 -- the text after one record more
-joined_push : {X : Type 0} (f : X → List ℕ) (xs : List X) (x : X) → flat_map f (xs ++ x ∷ []) ≡ flat_map f xs ++ f x
-joined_push f xs x = sym (flat_map_more f [] xs x)
-
 no_handlers : (m : TextMethod) → none m.handlers ≡ true → flat_map handler_text m.handlers ≡ []
 no_handlers m e = by_list m.handlers e
   where
     by_list : (xs : List (Handler PlainLocation)) → none xs ≡ true → flat_map handler_text xs ≡ []
     by_list [] h = refl
-    by_list (x ∷ xs) h = absurd (let z : ◌≡◌ {A = ℕ} 0 1 = cc in omega arith)
+    by_list (x ∷ xs) h = cc
 
 code_text_lem : (x : ReadInstruction) (m : TextMethod) → none m.handlers ≡ true → method_text (with_code (pushed x) m) ≡ method_text m ++ instruction_text x
 code_text_lem x m e =
@@ -129,7 +126,7 @@ code_text_lem x m e =
     let t = flat_map instruction_text m.code in
     let n = no_handlers m e in
     ap (λ u. s ++ (flat_map instruction_text (m.code ++ x ∷ []) ++ u)) n
-    ∙ ap (λ u. s ++ u) (append-nil (flat_map instruction_text (m.code ++ x ∷ [])) ∙ joined_push instruction_text m.code x ∙ ap (λ u. u ++ instruction_text x) (sym (append-nil t) ∙ ap (λ u. t ++ u) (sym n)))
+    ∙ ap (λ u. s ++ u) (append-nil (flat_map instruction_text (m.code ++ x ∷ [])) ∙ sym (flat_map_more instruction_text [] m.code x) ∙ ap (λ u. u ++ instruction_text x) (sym (append-nil t) ∙ ap (λ u. t ++ u) (sym n)))
     ∙ sym (append_assoc s (t ++ flat_map handler_text m.handlers) (instruction_text x))
 
 handler_text_lem : (x : Handler PlainLocation) (m : TextMethod) → method_text (with_handlers (pushed x) m) ≡ method_text m ++ handler_text x
@@ -137,11 +134,11 @@ handler_text_lem x m =
     let s = shape_text m.shape in
     let t = flat_map instruction_text m.code in
     let u = flat_map handler_text m.handlers in
-    ap (λ v. s ++ (t ++ v)) (joined_push handler_text m.handlers x) ∙ ap (λ v. s ++ v) (sym (append_assoc t u (handler_text x))) ∙ sym (append_assoc s (t ++ u) (handler_text x))
+    ap (λ v. s ++ (t ++ v)) (sym (flat_map_more handler_text [] m.handlers x)) ∙ ap (λ v. s ++ v) (sym (append_assoc t u (handler_text x))) ∙ sym (append_assoc s (t ++ u) (handler_text x))
 
 -- a change at the end of the last method is one at the end of the text
 last_text : (f : TextMethod → TextMethod) (more : List ℕ) (ms : List TextMethod) → none ms ≡ false → method_text (f (last_method ms)) ≡ method_text (last_method ms) ++ more → flat_map method_text (on_last f ms) ≡ flat_map method_text ms ++ more
-last_text f more [] n e = absurd (let z : ◌≡◌ {A = ℕ} 0 1 = cc in omega arith)
+last_text f more [] n e = cc
 last_text f more (m ∷ []) n e = append-nil (method_text (f m)) ∙ e ∙ ap (λ t. t ++ more) (sym (append-nil (method_text m)))
 last_text f more (m ∷ (k ∷ ms)) n e = ap (λ t. method_text m ++ t) (last_text f more (k ∷ ms) refl e) ∙ sym (append_assoc (method_text m) (flat_map method_text (k ∷ ms)) more)
 
@@ -153,21 +150,21 @@ counted_is : (what : Counted) (n most : ℕ) (s t : TextSheet) → counted what 
 counted_is what n most s t e =
     ⊎_elim
     (λ b. let r = sym (cond-true (ltb n most) (Ok s) _ b) ∙ e in let same : s ≡ t = cc in (ltb-true n most b, same))
-    (λ b. absurd (let r = sym (cond-false (ltb n most) (Ok s) _ b) ∙ e in let z : ◌≡◌ {A = ℕ} 0 1 = cc in omega arith))
+    (λ b. let r = sym (cond-false (ltb n most) (Ok s) _ b) ∙ e in cc)
     (cases_Bool (ltb n most))
 
 -- a chosen way that came to an end
 if_ok : {A : Type 0} (b : Bool) (x y : Result A LineFault) (a : A) (f : LineFault) → y ≡ Err f → cond b x y ≡ Ok a → (b ≡ true) × (x ≡ Ok a)
 if_ok true x y a f e h = (refl, h)
-if_ok false x y a f e h = absurd (let r = sym e ∙ h in let z : ◌≡◌ {A = ℕ} 0 1 = cc in omega arith)
+if_ok false x y a f e h = let r = sym e ∙ h in cc
 
 if_not : {A : Type 0} (b : Bool) (x y : Result A LineFault) (a : A) (f : LineFault) → x ≡ Err f → cond b x y ≡ Ok a → (b ≡ false) × (y ≡ Ok a)
 if_not false x y a f e h = (refl, h)
-if_not true x y a f e h = absurd (let r = sym e ∙ h in let z : ◌≡◌ {A = ℕ} 0 1 = cc in omega arith)
+if_not true x y a f e h = let r = sym e ∙ h in cc
 
 none_nil : {X : Type 0} (xs : List X) → none xs ≡ true → xs ≡ []
 none_nil [] e = refl
-none_nil (x ∷ xs) e = absurd (let z : ◌≡◌ {A = ℕ} 0 1 = cc in omega arith)
+none_nil (x ∷ xs) e = cc
 
 -- a sheet that took a line has its text with that line behind it, and is still within the bounds
 pub record Grown (s t : TextSheet) (x : Line) : Type 0 where
@@ -181,7 +178,7 @@ library_grown s t x w h e =
     let n = none_nil s.methods a.0 in
     let l = length_push s.library x in
     let j = ap (flat_map method_text) n in
-    let text : sheet_text (with_library (pushed x s.library) s) ≡ sheet_text s ++ signature_text x = ap (λ u. flat_map signature_text (s.library ++ x ∷ []) ++ u) j ∙ append-nil _ ∙ joined_push signature_text s.library x ∙ ap (λ u. u ++ signature_text x) (sym (append-nil _) ∙ ap (λ u. flat_map signature_text s.library ++ u) (sym j)) in
+    let text : sheet_text (with_library (pushed x s.library) s) ≡ sheet_text s ++ signature_text x = ap (λ u. flat_map signature_text (s.library ++ x ∷ []) ++ u) j ∙ append-nil _ ∙ sym (flat_map_more signature_text [] s.library x) ∙ ap (λ u. u ++ signature_text x) (sym (append-nil _) ∙ ap (λ u. flat_map signature_text s.library ++ u) (sym j)) in
     let grown : Grown s (with_library (pushed x s.library) s) (Library x) = record { text = text; bounds = record { signatures = omega arith; methods = w.methods; instructions = w.instructions; handlers = w.handlers; library = every_push signature_fits s.library x w.library h; own = w.own } } in
     subst (λ y. Grown s y (Library x)) b.1 grown
 
@@ -191,7 +188,7 @@ method_grown s t x w h e =
     let l = length_push s.methods (bare x) in
     let i = instructions_push s.methods (bare x) in
     let g = handlers_push s.methods (bare x) in
-    let text : sheet_text (with_methods (pushed (bare x) s.methods) s) ≡ sheet_text s ++ shape_text x = ap (λ u. flat_map signature_text s.library ++ u) (joined_push method_text s.methods (bare x) ∙ ap (λ u. flat_map method_text s.methods ++ u) (bare_text x)) ∙ sym (append_assoc (flat_map signature_text s.library) (flat_map method_text s.methods) (shape_text x)) in
+    let text : sheet_text (with_methods (pushed (bare x) s.methods) s) ≡ sheet_text s ++ shape_text x = ap (λ u. flat_map signature_text s.library ++ u) (sym (flat_map_more method_text [] s.methods (bare x)) ∙ ap (λ u. flat_map method_text s.methods ++ u) (bare_text x)) ∙ sym (append_assoc (flat_map signature_text s.library) (flat_map method_text s.methods) (shape_text x)) in
     let grown : Grown s (with_methods (pushed (bare x) s.methods) s) (OwnMethod x) = record { text = text; bounds = record { signatures = w.signatures; methods = omega arith; instructions = omega (arith, w.instructions); handlers = omega (arith, w.handlers); library = w.library; own = every_push method_allowed s.methods (bare x) w.own (and_from _ true h refl) } } in
     subst (λ y. Grown s y (OwnMethod x)) b.1 grown
 

@@ -13,8 +13,8 @@ use Rattle.sheet_laws.proofs.Columns.{own, first_digit, ten_mono, behind_blanks}
 
 pub same_text_lem : (s t : List ℕ) → same_text s t ≡ true → s ≡ t
 same_text_lem [] [] e = refl
-same_text_lem [] (b ∷ t) e = absurd (let z : ◌≡◌ {A = ℕ} 0 1 = cc in omega arith)
-same_text_lem (a ∷ s) [] e = absurd (let z : ◌≡◌ {A = ℕ} 0 1 = cc in omega arith)
+same_text_lem [] (b ∷ t) e = cc
+same_text_lem (a ∷ s) [] e = cc
 same_text_lem (a ∷ s) (b ∷ t) e =
     let p = and_parts (eqb a b) (same_text s t) e in
     let h = eqb-true a b p.0 in
@@ -59,7 +59,7 @@ unfolding held
 held_is t z e =
     ⊎_elim
     (λ b. let s = sym (cond-true _ (Some (said t)) None b) ∙ e in let y : said t ≡ z = cc in sym (same_text_lem _ t b) ∙ ap (λ x. column (length t) (signed_decimal x)) y)
-    (λ b. absurd (let s = sym (cond-false _ (Some (said t)) None b) ∙ e in let y : ◌≡◌ {A = ℕ} 0 1 = cc in omega arith))
+    (λ b. let s = sym (cond-false _ (Some (said t)) None b) ∙ e in cc)
     (cases_Bool (same_text (column (length t) (signed_decimal (said t))) t))
 
 -- no more is said than the columns have room for

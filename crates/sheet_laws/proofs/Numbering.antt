@@ -37,7 +37,7 @@ numbered k [] = true
 numbered k (o ∷ os) = eqb (op_number o) k && numbered (suc k) os
 
 pub numbered_at : (k : ℕ) (os : List Op) (i : ℕ) (op : Op) → numbered k os ≡ true → slice_get os i ≡ Some op → op_number op ≡ k + i
-numbered_at k [] i op e h = absurd (let z : ◌≡◌ {A = ℕ} 0 1 = cc in omega arith)
+numbered_at k [] i op e h = cc
 numbered_at k (o ∷ os) zero op e h =
     let p = and_parts (eqb (op_number o) k) (numbered (suc k) os) e in
     let q = eqb-true (op_number o) k p.0 in
@@ -46,14 +46,14 @@ numbered_at k (o ∷ os) zero op e h =
 numbered_at k (o ∷ os) (suc i) op e h = let p = and_parts (eqb (op_number o) k) (numbered (suc k) os) e in let r = numbered_at (suc k) os i op p.1 h in omega arith
 
 pub op_numbered_lem : (n : ℕ) (op : Op) → op_numbered n ≡ Some op → op_number op ≡ n
-op_numbered_lem zero op e = absurd (let z : ◌≡◌ {A = ℕ} 0 1 = cc in omega arith)
+op_numbered_lem zero op e = cc
 op_numbered_lem (suc n) op e = let r = numbered_at 1 ops n op refl e in omega arith
 
 op_none : (n : ℕ) → op_numbered n ≡ None → (n ≡ 0) ⊎ (18 < n)
 op_none zero e = inl refl
 op_none (suc n) e =
     ⊎_elim
-    (λ h. absurd (let s = slice_get_or ops n LoadConstant h in let z : ◌≡◌ {A = ℕ} 0 1 = cc in omega arith))
+    (λ h. let s = slice_get_or ops n LoadConstant h in cc)
     (λ h. inr (omega arith))
     (cases_lt n (length ops))
 
@@ -68,7 +68,7 @@ kind_numbered_lem n k e =
     (λ b. let s = sym (cond-false (eqb n 1) (Some Every) _ b) ∙ e in
     ⊎_elim
     (λ c. let t = sym (cond-true (eqb n 2) (Some SecurityOnly) None c) ∙ s in let same : SecurityOnly ≡ k = cc in ap kind_number (sym same) ∙ sym (eqb-true n 2 c))
-    (λ c. absurd (let t = sym (cond-false (eqb n 2) (Some SecurityOnly) None c) ∙ s in let z : ◌≡◌ {A = ℕ} 0 1 = cc in omega arith))
+    (λ c. let t = sym (cond-false (eqb n 2) (Some SecurityOnly) None c) ∙ s in cc)
     (cases_Bool (eqb n 2)))
     (cases_Bool (eqb n 1))
 

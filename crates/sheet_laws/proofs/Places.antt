@@ -1,8 +1,9 @@
 -- Texts written into a buffer one behind the other. Assumes nothing.
-use Rattle.std.proofs.Common.{◌≡◌, ℕ, ◌+◌, ◌-◌, ◌^◌, ◌<◌, ◌≤◌, List, [], ◌∷◌, ◌++◌, length, get_or, take, drop, set, replicate, decimal, sym, refl, ap, ◌∙◌, add-zero, add-one, arith}
+use Rattle.std.proofs.Common.{◌≡◌, ℕ, ◌+◌, ◌-◌, ◌^◌, ◌<◌, ◌≤◌, List, [], ◌∷◌, ◌++◌, length, get_or, take, drop, set, replicate, decimal, sym, ap, ◌∙◌, add-zero, add-one, arith}
 use borrow.Rule.Slice.PartMut.{put_mid}
 use Rattle.std.specs.List.{flat_map}
 use Rattle.std.proofs.lemmas.Fmt.{length-decimal-le}
+use Rattle.std.proofs.lemmas.Grind.{flat_map-append}
 use Rattle.std.proofs.lemmas.List.{append_assoc, append-nil, flat_map_more, length-append, length-drop, length_push, length-replicate, length-take-le, take-append-drop, take_at, take_more, drop_at, drop-drop, set_split}
 use Rattle.sheet.specs.Columns.{column}
 use Rattle.sheet.specs.Text.{count, placed}
@@ -55,10 +56,6 @@ placed_length at t E h =
     omega arith
 
 -- pieces of text that are written one behind the other
-joined_split : {X : Type 0} (f : X → List ℕ) (xs ys : List X) → flat_map f (xs ++ ys) ≡ flat_map f xs ++ flat_map f ys
-joined_split f [] ys = refl
-joined_split f (x ∷ xs) ys = ap (λ t. f x ++ t) (joined_split f xs ys) ∙ sym (append_assoc (f x) (flat_map f xs) (flat_map f ys))
-
 module _ {X : Type 0} (f : X → List ℕ) (xs : List X) (i : ℕ) (x : X) (is : x ≡ get_or xs i x) (inside : i < length xs) where
   -- the pieces up to one are those ahead of it, and then it
   pub joined_next : flat_map f (take (i + 1) xs) ≡ flat_map f (take i xs) ++ f x
@@ -68,7 +65,7 @@ module _ {X : Type 0} (f : X → List ℕ) (xs : List X) (i : ℕ) (x : X) (is :
   pub joined_room : length (flat_map f (take i xs)) + length (f x) ≤ length (flat_map f xs)
   joined_room =
       let a = ap length joined_next ∙ length-append (flat_map f (take i xs)) (f x) in
-      let b = ap (λ ys. length (flat_map f ys)) (sym (take-append-drop (i + 1) xs)) ∙ ap length (joined_split f (take (i + 1) xs) (drop (i + 1) xs)) ∙ length-append (flat_map f (take (i + 1) xs)) (flat_map f (drop (i + 1) xs)) in
+      let b = ap (λ ys. length (flat_map f ys)) (sym (take-append-drop (i + 1) xs)) ∙ ap length (flat_map-append f (take (i + 1) xs) (drop (i + 1) xs)) ∙ length-append (flat_map f (take (i + 1) xs)) (flat_map f (drop (i + 1) xs)) in
       omega arith
 
   module _ (at next : ℕ) (E F G : List ℕ) (room : at + length (flat_map f xs) ≤ length E) (where_next : next ≡ at + length (flat_map f (take i xs))) (before : F ≡ placed at (flat_map f (take i xs)) E) (after : G ≡ placed next (f x) F) where

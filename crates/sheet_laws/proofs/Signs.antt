@@ -43,7 +43,7 @@ sign_written (suc w) xs true t h e l =
     let j : suc w - 1 ≡ w = omega arith in
     ap (λ x. set x (length xs - 1) 45) e ∙ ap (λ n. set (replicate (suc w) 32) n 45) i ∙ set_blank w 45 ∙ ap (λ n. replicate n 32 ++ 45 ∷ []) (sym j)
 sign_written zero xs b t h e l = absurd (omega arith)
-sign_written (suc w) xs false t h e l = absurd (let z : ◌≡◌ {A = ℕ} 0 1 = cc in omega arith)
+sign_written (suc w) xs false t h e l = cc
 
 pub minus_short : (b : Bool) → length (minus_text b) ≤ 1
 minus_short true = omega arith

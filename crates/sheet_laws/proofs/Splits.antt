@@ -66,12 +66,12 @@ module _ (k : ℕ) (s : TextSheet) (rest line tail : List ℕ) (some : 0 < lengt
 
   -- what came of the line, with its number
   pub line_refused : (taken : Result (Unit {0}) LineFault) (r : Result (Unit {0}) SheetFault) (after : TextSheet) (f : SheetFault) → MatchResult taken (λ _. line_taken s line ≡ Ok after) (λ e. line_taken s line ≡ Err e) → MatchResult taken (λ u. r ≡ Ok u) (λ e. r ≡ Err (AtLine k e)) → r ≡ Err f → lines_read k s (lines rest) ≡ Err f
-  line_refused (Ok u) r after f t l e = absurd (let z : ◌≡◌ {A = ℕ} 0 1 = cc in omega arith)
+  line_refused (Ok u) r after f t l e = cc
   line_refused (Err g) r after f t l e = let same : AtLine k g ≡ f = cc in line_err g t ∙ ap Err same
 
   pub line_taken_lem : (taken : Result (Unit {0}) LineFault) (r : Result (Unit {0}) SheetFault) (after : TextSheet) (u : Unit {0}) → MatchResult taken (λ _. line_taken s line ≡ Ok after) (λ e. line_taken s line ≡ Err e) → MatchResult taken (λ u. r ≡ Ok u) (λ e. r ≡ Err (AtLine k e)) → r ≡ Ok u → lines_read k s (lines rest) ≡ lines_read (suc k) after (lines tail)
   line_taken_lem (Ok _) r after u t l e = line_ok after t
-  line_taken_lem (Err g) r after u t l e = absurd (let z : ◌≡◌ {A = ℕ} 0 1 = cc in omega arith)
+  line_taken_lem (Err g) r after u t l e = cc
 
 pub lines_end : (k : ℕ) (s : TextSheet) (rest : List ℕ) → length rest ≡ 0 → lines_read k s (lines rest) ≡ Ok s
 unfolding lines_read lines
