@@ -1,8 +1,8 @@
 -- A sheet with one line more: its text and its bounds. Assumes nothing.
-use Rattle.std.proofs.Common.{◌≡◌, ℕ, suc, ◌+◌, ◌<◌, ◌≤◌, Bool, true, false, cond, ltb, leb, List, [], ◌∷◌, ◌++◌, length, Ok, Err, Result, sym, refl, ap, ◌∙◌, subst, ⊎_elim, arith}
+use Rattle.std.proofs.Common.{◌≡◌, ℕ, suc, ◌+◌, ◌<◌, ◌≤◌, Bool, true, false, cond, List, [], ◌∷◌, ◌++◌, length, Ok, Err, Result, sym, refl, ap, ◌∙◌, subst, arith}
 use Rattle.std.specs.List.{flat_map}
 use Rattle.std.proofs.lemmas.List.{append_assoc, append-nil, length_push, flat_map_more}
-use Rattle.std.proofs.lemmas.Bool.{and_parts, and_from, leb-true, le-leb, ltb-true, cond-true, cond-false, cases_Bool}
+use Rattle.std.proofs.lemmas.Bool.{and_parts, and_from}
 use Rattle.sheet.specs.Bounds.{every, all_allowed, method_allowed, few_enough, in_range}
 use Rattle.sheet.specs.Fields.{fields_of}
 use Rattle.sheet.specs.Reading.{TextSheet, none, counted, added}
@@ -44,21 +44,15 @@ pub record Within (s : TextSheet) : Type 0 where
   pub own : every method_allowed s.methods ≡ true
 
 pub within_from : (s : TextSheet) → in_range s ≡ true → Within s
-within_from s e =
-    let p = and_parts (few_enough s) _ e in
-    let a = and_parts (leb (length s.library) 32) _ p.0 in
-    let b = and_parts (leb (length s.methods) 16) _ a.1 in
-    let c = and_parts (leb (instructions_in s.methods) 2048) _ b.1 in
-    let q = and_parts (every signature_fits s.library) _ p.1 in
-    record { signatures = leb-true _ 32 a.0; methods = leb-true _ 16 b.0; instructions = leb-true _ 2048 c.0; handlers = leb-true _ 256 c.1; library = q.0; own = q.1 }
+within_from s e = let p = and_parts (few_enough s) _ e in grind arith
 
 pub within_to : (s : TextSheet) → Within s → in_range s ≡ true
-within_to s w = and_from _ _ (and_from _ _ (le-leb _ 32 w.signatures) (and_from _ _ (le-leb _ 16 w.methods) (and_from _ _ (le-leb _ 2048 w.instructions) (le-leb _ 256 w.handlers)))) (and_from _ _ w.library w.own)
+within_to s w = grind arith
 
 -- one more at the end
 pub every_push : {X : Type 0} (test : X → Bool) (xs : List X) (x : X) → every test xs ≡ true → test x ≡ true → every test (xs ++ x ∷ []) ≡ true
 every_push test [] x e h = and_from (test x) true h refl
-every_push test (y ∷ xs) x e h = let p = and_parts (test y) (every test xs) e in and_from (test y) _ p.0 (every_push test xs x p.1 h)
+every_push test (y ∷ xs) x e h = grind (arith, every_push test xs x)
 
 every_last : {X : Type 0} (test : X → Bool) (f : X → X) (xs : List X) → ((x : X) → test x ≡ true → test (f x) ≡ true) → every test xs ≡ true → every test (on_last f xs) ≡ true
 every_last test f [] k e = refl
@@ -147,20 +141,14 @@ bare_text x = append-nil (shape_text x)
 
 -- what may be counted once more
 counted_is : (what : Counted) (n most : ℕ) (s t : TextSheet) → counted what n most s ≡ Ok t → (n < most) × (s ≡ t)
-counted_is what n most s t e =
-    ⊎_elim
-    (λ b. let r = sym (cond-true (ltb n most) (Ok s) _ b) ∙ e in let same : s ≡ t = cc in (ltb-true n most b, same))
-    (λ b. let r = sym (cond-false (ltb n most) (Ok s) _ b) ∙ e in cc)
-    (cases_Bool (ltb n most))
+counted_is what n most s t e = grind arith
 
 -- a chosen way that came to an end
 if_ok : {A : Type 0} (b : Bool) (x y : Result A LineFault) (a : A) (f : LineFault) → y ≡ Err f → cond b x y ≡ Ok a → (b ≡ true) × (x ≡ Ok a)
-if_ok true x y a f e h = (refl, h)
-if_ok false x y a f e h = let r = sym e ∙ h in cc
+if_ok b x y a f e h = grind arith
 
 if_not : {A : Type 0} (b : Bool) (x y : Result A LineFault) (a : A) (f : LineFault) → x ≡ Err f → cond b x y ≡ Ok a → (b ≡ false) × (y ≡ Ok a)
-if_not false x y a f e h = (refl, h)
-if_not true x y a f e h = let r = sym e ∙ h in cc
+if_not b x y a f e h = grind arith
 
 none_nil : {X : Type 0} (xs : List X) → none xs ≡ true → xs ≡ []
 none_nil [] e = refl

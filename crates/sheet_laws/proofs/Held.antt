@@ -1,12 +1,12 @@
 -- A field holds a number exactly when it is that number's text in its columns. Assumes nothing.
-use Rattle.std.proofs.Common.{◌≡◌, ℕ, zero, suc, ◌+◌, ◌-◌, ◌*◌, ◌^◌, ◌<◌, ◌≤◌, true, cond, eqb, List, [], ◌∷◌, ◌++◌, length, get_or, replicate, ℤ, pos, negsuc, neg_ℤ, Some, None, decimal, Option, sym, refl, ap, ◌∙◌, subst, ⊎_elim, mul-le-mul_right, mul_assoc, arith, MatchOption}
+use Rattle.std.proofs.Common.{◌≡◌, ℕ, zero, suc, ◌+◌, ◌-◌, ◌*◌, ◌^◌, ◌<◌, ◌≤◌, true, eqb, List, [], ◌∷◌, ◌++◌, length, get_or, replicate, ℤ, pos, negsuc, neg_ℤ, Some, None, decimal, Option, sym, refl, ap, ◌∙◌, subst, ⊎_elim, mul-le-mul_right, mul_assoc, arith, MatchOption}
 use native.Mathlib.Nat.{pow-succ'}
 use lib.Signed.{mag}
 use Rattle.std.specs.Str.Parse.{digits_value, digits_value_after}
 use Rattle.std.specs.Char.{digit_value}
 use Rattle.std.specs.Fmt.{signed_decimal}
 use Rattle.std.proofs.lemmas.Fmt.{decimal_nonempty, digits_value-decimal}
-use Rattle.std.proofs.lemmas.Bool.{and_parts, and_from, eqb-true, eq-eqb, ne_eqb, cond-true, cond-false, cases_Bool}
+use Rattle.std.proofs.lemmas.Bool.{and_parts, and_from, eqb-true, eq-eqb, cond-true, cond-false, cases_Bool}
 use Rattle.sheet.specs.Columns.{column, same_text, said, held}
 use Rattle.sheet.specs.Laws.{FieldLaw}
 use Rattle.sheet_laws.proofs.Columns.{own, first_digit, ten_mono, behind_blanks}
@@ -34,10 +34,7 @@ said_blanks (suc k) t = said_blanks k t
 said_digits : (t : List ℕ) → 0 < length t → 48 ≤ get_or t 0 0 → said t ≡ pos (digits_value 10 t)
 unfolding said
 said_digits [] h k = absurd (omega arith)
-said_digits (b ∷ t) h k =
-    let p = cond-false (eqb b 32) (said t) (cond (eqb b 45) (neg_ℤ (pos (digits_value 10 t))) (pos (digits_value 10 (b ∷ t)))) (ne_eqb b 32 (λ e. omega arith)) in
-    let q = cond-false (eqb b 45) (neg_ℤ (pos (digits_value 10 t))) (pos (digits_value 10 (b ∷ t))) (ne_eqb b 45 (λ e. omega arith)) in
-    p ∙ q
+said_digits (b ∷ t) h k = grind arith
 
 said_signed : (z : ℤ) → mag z < 2 ^ 63 → said (signed_decimal z) ≡ z
 unfolding said

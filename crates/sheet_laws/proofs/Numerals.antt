@@ -1,10 +1,10 @@
 -- The fields of a line and the numbers in them: written and read again. Assumes nothing.
-use Rattle.std.proofs.Common.{◌≡◌, ℕ, ◌+◌, ◌^◌, ◌<◌, ◌≤◌, true, ◌&&◌, List, [], ◌∷◌, ◌++◌, length, take, drop, ℤ, pos, negsuc, Some, None, Ok, Err, Option, Result, sym, refl, ap, ◌∙◌, ⊎_elim, arith}
+use Rattle.std.proofs.Common.{◌≡◌, ℕ, ◌+◌, ◌^◌, ◌<◌, ◌≤◌, true, ◌&&◌, List, [], ◌∷◌, ◌++◌, length, take, drop, ℤ, pos, negsuc, Some, None, Ok, Err, Option, Result, sym, refl, ap, ◌∙◌, arith}
 use lib.Signed.{mag, le_z}
 use Rattle.std.specs.Fmt.{signed_decimal}
 use Rattle.std.proofs.lemmas.Fmt.{length-decimal-le, length_signed_le}
 use Rattle.std.proofs.lemmas.List.{length-append, length-drop, length-take-le, take-append-drop, take_at, drop_at, nil_from_length}
-use Rattle.std.proofs.lemmas.Bool.{and_parts, and_from, leb-true, cond-true, cond-false, cases_Bool}
+use Rattle.std.proofs.lemmas.Bool.{and_parts, and_from, leb-true, cond-true}
 use Rattle.sheet.specs.Bounds.{all_allowed}
 use Rattle.sheet.specs.Columns.{column, held, allowed, judged, field_read}
 use Rattle.sheet.specs.Fields.{width_of, widths}
@@ -31,10 +31,7 @@ pub record Short (f : Field) (z : ℤ) : Type 0 where
   pub size : mag z < 2 ^ 63
 
 small : (lo hi : ℕ) (z : ℤ) → hi ≤ 2048 → (le_z (pos lo) z && le_z z (pos hi)) ≡ true → (length (signed_decimal z) ≤ 6) × (mag z < 2 ^ 63)
-small lo hi (pos n) h e =
-    let p = and_parts (le_z (pos lo) (pos n)) (le_z (pos n) (pos hi)) e in
-    let k = leb-true n hi p.1 in
-    (length-decimal-le 6 n (omega arith) (omega arith) (omega arith), omega arith)
+small lo hi (pos n) h e = let d = length-decimal-le 6 n (omega arith) in grind arith
 small lo hi (negsuc n) h e = cc
 
 wide : (z : ℤ) → (le_z (negsuc 2147483647) z && le_z z (pos 2147483647)) ≡ true → (length (signed_decimal z) ≤ 12) × (mag z < 2 ^ 63)
@@ -68,11 +65,7 @@ field_reads f z a =
 
 judged_ok : (f : Field) (o : Option ℤ) (z : ℤ) → judged f o ≡ Ok z → (o ≡ Some z) × (allowed f z ≡ true)
 judged_ok f None z e = cc
-judged_ok f (Some y) z e =
-    ⊎_elim
-    (λ b. let s = sym (cond-true (allowed f y) (Ok y) _ b) ∙ e in let same : y ≡ z = cc in (ap Some same, ap (allowed f) (sym same) ∙ b))
-    (λ b. let s = sym (cond-false (allowed f y) (Ok y) _ b) ∙ e in cc)
-    (cases_Bool (allowed f y))
+judged_ok f (Some y) z e = grind arith
 
 -- a field that reads as a number is the text of that number
 field_is : (f : Field) (t : List ℕ) (z : ℤ) → length t ≡ width_of f → field_read f t ≡ Ok z → (t ≡ column (width_of f) (signed_decimal z)) × (allowed f z ≡ true)

@@ -9,7 +9,7 @@ use Rattle.sheet.specs.Columns.{column}
 use Rattle.sheet.specs.Text.{count, placed}
 
 pub length_column : (w : ℕ) (t : List ℕ) → length t ≤ w → length (column w t) ≡ w
-length_column w t h = let a = length-append (replicate (w - length t) 32) t in let b = length-replicate {A = ℕ} (w - length t) 32 in omega arith
+length_column w t h = omega (arith, length-append (replicate (w - length t) 32) t, length-replicate {A = ℕ} (w - length t) 32)
 
 -- a number of 16 bits fits six columns
 pub count_short : (n : ℕ) → n < 2 ^ 16 → length (decimal n) ≤ 6

@@ -1,9 +1,9 @@
 -- A line and what it says: written and read again. Assumes nothing.
-use Rattle.std.proofs.Common.{◌≡◌, ℕ, zero, suc, ◌+◌, ◌-◌, ◌<◌, Bool, true, false, cond, ◌&&◌, eqb, List, [], ◌∷◌, ◌++◌, length, get_or, take, ℤ, pos, negsuc, nat_abs, Some, None, Ok, Option, unwrap_or, sym, refl, ap, ◌∙◌, ⊎_elim, arith}
+use Rattle.std.proofs.Common.{◌≡◌, ℕ, zero, suc, ◌+◌, ◌-◌, Bool, true, false, ◌&&◌, eqb, List, [], ◌∷◌, ◌++◌, length, get_or, take, ℤ, pos, negsuc, nat_abs, Some, None, Ok, Option, unwrap_or, sym, refl, ap, ◌∙◌, arith, rules}
 use lib.Signed.{le_z}
 use Rattle.std.proofs.lemmas.List.{get_or_push, length_push, take_at, take_all, take_more}
 use Rattle.std.proofs.lemmas.Option.{slice_get-get_or}
-use Rattle.std.proofs.lemmas.Bool.{and_parts, leb-true, eq-eqb, eqb-true, cond-true, cond-false, cases_Bool}
+use Rattle.std.proofs.lemmas.Bool.{and_parts, leb-true}
 use Rattle.sheet.specs.Bounds.{all_allowed}
 use Rattle.sheet.specs.Columns.{allowed}
 use Rattle.sheet.specs.Fields.{fields_of, widths, letter_byte, letter_of}
@@ -72,14 +72,14 @@ natural_back lo hi (negsuc n) e = cc
 flag_number : (z : ℤ) → (le_z (pos 0) z && le_z z (pos 1)) ≡ true → pos (flag (eqb (nat_abs z) 1)) ≡ z
 flag_number (pos zero) e = refl
 flag_number (pos (suc zero)) e = refl
-flag_number (pos (suc (suc n))) e = absurd (let p = and_parts (le_z (pos 0) (pos (suc (suc n)))) (le_z (pos (suc (suc n))) (pos 1)) e in let k = leb-true (suc (suc n)) 1 p.1 in omega arith)
+flag_number (pos (suc (suc n))) e = grind arith
 flag_number (negsuc n) e = cc
 
 kind_number_lem : (z : ℤ) → (le_z (pos 1) z && le_z z (pos 2)) ≡ true → pos (kind_number (unwrap_or (kind_numbered (nat_abs z)) Every)) ≡ z
 kind_number_lem (pos zero) e = cc
 kind_number_lem (pos (suc zero)) e = refl
 kind_number_lem (pos (suc (suc zero))) e = refl
-kind_number_lem (pos (suc (suc (suc n)))) e = absurd (let p = and_parts (le_z (pos 1) (pos (suc (suc (suc n))))) (le_z (pos (suc (suc (suc n)))) (pos 2)) e in let k = leb-true (suc (suc (suc n))) 2 p.1 in omega arith)
+kind_number_lem (pos (suc (suc (suc n)))) e = grind arith
 kind_number_lem (negsuc n) e = cc
 
 op_number_lem : (z : ℤ) → (le_z (pos 1) z && le_z z (pos 18)) ≡ true → pos (op_number (unwrap_or (op_numbered (nat_abs z)) LoadConstant)) ≡ z
@@ -159,22 +159,12 @@ byte_letter M = refl
 byte_letter I = refl
 byte_letter X = refl
 
-choice : (b n : ℕ) (x l : Letter) (o : Option Letter) → (n ≡ letter_byte x) → cond (eqb b n) (Some x) o ≡ Some l → (o ≡ Some l → b ≡ letter_byte l) → b ≡ letter_byte l
-choice b n x l o is e other =
-    ⊎_elim
-    (λ t. let s = sym (cond-true (eqb b n) (Some x) o t) ∙ e in let same : x ≡ l = cc in eqb-true b n t ∙ is ∙ ap letter_byte same)
-    (λ f. other (sym (cond-false (eqb b n) (Some x) o f) ∙ e))
-    (cases_Bool (eqb b n))
-
 letter_byte_lem : (b : ℕ) (l : Letter) → letter_of b ≡ Some l → b ≡ letter_byte l
-letter_byte_lem b l e = choice b 76 L l _ refl e (λ f. choice b 77 M l _ refl f (λ g. choice b 73 I l _ refl g (λ h. choice b 88 X l _ refl h (λ n. cc))))
+letter_byte_lem b l e = grind arith
 
 -- a text with a line feed behind it
 feed_last : (t : List ℕ) → last_byte (t ++ 10 ∷ []) ≡ 10
-feed_last t =
-    let l = length_push t 10 in
-    let k : length (t ++ 10 ∷ []) - 1 ≡ length t = omega arith in
-    ap (λ n. get_or (t ++ 10 ∷ []) n 0) k ∙ get_or_push t 10 0 (length t) refl
+feed_last t = search (rules, length_push, get_or_push)
 
 feed_front : (t : List ℕ) → front (t ++ 10 ∷ []) ≡ t
 feed_front t =
@@ -184,38 +174,15 @@ feed_front t =
 
 front_feed : (t : List ℕ) → last_byte t ≡ 10 → t ≡ front t ++ 10 ∷ []
 front_feed [] e = absurd (omega arith)
-front_feed (b ∷ t) e =
-    let i : length (b ∷ t) - 1 < length (b ∷ t) = omega arith in
-    let m = take_more (b ∷ t) (length (b ∷ t) - 1) 0 i in
-    let a = take_all (length (b ∷ t) - 1 + 1) (b ∷ t) (omega arith) in
-    sym a ∙ m ∙ ap (λ y. front (b ∷ t) ++ y ∷ []) e
+front_feed (b ∷ t) e = let m = take_more (b ∷ t) (length t) 0 (omega arith) in let a = take_all (length t + 1) (b ∷ t) (omega arith) in grind arith
 
 -- a line taken apart
 parted_text : (l : Letter) (t : List ℕ) → length t ≡ widths (fields_of l) → parted (letter_byte l ∷ (t ++ 10 ∷ [])) ≡ Ok (l, t)
-parted_text l t h =
-    let u = t ++ 10 ∷ [] in
-    let f = feed_front t in
-    ap (λ o. behind_letter o u) (byte_letter l)
-    ∙ cond-true (eqb (last_byte u) 10) _ _ (eq-eqb _ 10 (feed_last t))
-    ∙ cond-true (eqb (length (front u)) (widths (fields_of l))) (Ok (l, front u)) _ (eq-eqb _ _ (ap length f ∙ h))
-    ∙ ap (λ y. Ok (l, y)) f
+parted_text l t h = let f = feed_front t in let g = feed_last t in let b = byte_letter l in grind arith
 
 behind_ok : (o : Option Letter) (u : List ℕ) (p : Letter × List ℕ) → behind_letter o u ≡ Ok p → (o ≡ Some p.0) × (u ≡ p.1 ++ 10 ∷ []) × (length p.1 ≡ widths (fields_of p.0))
 behind_ok None u p e = cc
-behind_ok (Some l) u p e =
-    ⊎_elim
-    (λ b. let e' = sym (cond-true (eqb (last_byte u) 10) _ _ b) ∙ e in
-    ⊎_elim
-    (λ c.
-    let s = sym (cond-true (eqb (length (front u)) (widths (fields_of l))) (Ok (l, front u)) _ c) ∙ e' in
-    let same : (l, front u) ≡ p = cc in
-    let x = ap (λ q. q.0) same in
-    let y = ap (λ q. q.1) same in
-    (ap Some x, front_feed u (eqb-true _ 10 b) ∙ ap (λ t. t ++ 10 ∷ []) y, ap length (sym y) ∙ eqb-true _ _ c ∙ ap (λ k. widths (fields_of k)) x))
-    (λ c. let s = sym (cond-false (eqb (length (front u)) (widths (fields_of l))) (Ok (l, front u)) _ c) ∙ e' in cc)
-    (cases_Bool (eqb (length (front u)) (widths (fields_of l)))))
-    (λ b. let s = sym (cond-false (eqb (last_byte u) 10) _ _ b) ∙ e in cc)
-    (cases_Bool (eqb (last_byte u) 10))
+behind_ok (Some l) u p e = grind (arith, front_feed)
 
 parted_ok : (t : List ℕ) (p : Letter × List ℕ) → parted t ≡ Ok p → (t ≡ letter_byte p.0 ∷ (p.1 ++ 10 ∷ [])) × (length p.1 ≡ widths (fields_of p.0))
 parted_ok [] p e = cc

@@ -1,5 +1,5 @@
 -- A number written from its last digit on, with a sign ahead of it. Assumes nothing.
-use Rattle.std.proofs.Common.{◌≡◌, ℕ, zero, suc, ◌+◌, ◌-◌, ◌/◌, ◌%◌, ◌^◌, ◌<◌, ◌≤◌, Bool, true, false, List, [], ◌∷◌, ◌++◌, length, set, replicate, ℤ, pos, negsuc, nat_abs, decimal, sym, refl, ap, ◌∙◌, arith, w32, SFits, to_z, of_z, le-ltb}
+use Rattle.std.proofs.Common.{◌≡◌, ℕ, zero, suc, ◌+◌, ◌-◌, ◌/◌, ◌%◌, ◌^◌, ◌<◌, ◌≤◌, Bool, true, false, List, [], ◌∷◌, ◌++◌, length, set, replicate, ℤ, pos, negsuc, nat_abs, decimal, sym, refl, ap, ◌∙◌, arith, w32, SFits, to_z, of_z}
 use lib.Signed.{lt_z}
 use Rattle.std.proofs.lemmas.Int.{to_z-of_z}
 use Rattle.std.specs.Fmt.{signed_decimal}
@@ -50,15 +50,11 @@ minus_short true = omega arith
 minus_short false = omega arith
 
 pub sign_is : (z : ℤ) → minus_text (lt_z z (pos 0)) ++ decimal (nat_abs z) ≡ signed_decimal z
-sign_is (pos n) = ap (λ b. minus_text b ++ decimal n) (le-ltb n 0 (omega arith))
+sign_is (pos n) = grind arith
 sign_is (negsuc n) = refl
 
 pub operand_fits : (b : Bool) (n : ℕ) → n ≤ 2 ^ 31 → length (minus_text b ++ decimal n) ≤ 12
-operand_fits b n h =
-    let a = length-append (minus_text b) (decimal n) in
-    let m = minus_short b in
-    let d = length-decimal-le 10 n (omega arith) (omega arith) (omega arith) in
-    omega arith
+operand_fits b n h = omega (arith, length-append (minus_text b) (decimal n), minus_short b, length-decimal-le 10 n (omega arith) (omega arith) (omega arith))
 
 -- the operand as it is written: its sign and its size
 pub operand_text : (z : ℤ) (n : ℕ) → SFits w32 z → n ≡ nat_abs (to_z w32 (of_z w32 z)) → minus_text (lt_z (to_z w32 (of_z w32 z)) (pos 0)) ++ decimal n ≡ signed_decimal z
