@@ -6,7 +6,7 @@ use Rattle.std.specs.Str.Parse.{digits_value, digits_value_after}
 use Rattle.std.specs.Char.{digit_value}
 use Rattle.std.specs.Fmt.{signed_decimal}
 use Rattle.std.proofs.lemmas.Fmt.{decimal_nonempty, digits_value-decimal}
-use Rattle.std.proofs.lemmas.Bool.{and_parts, and_from, eqb-true, eq-eqb, cond-true, cond-false, cases_Bool}
+use Rattle.std.proofs.lemmas.Bool.{cond-true, cond-false, cases_Bool}
 use Rattle.sheet.specs.Columns.{column, same_text, said, held}
 use Rattle.sheet.specs.Laws.{FieldLaw}
 use Rattle.sheet_laws.proofs.Columns.{own, first_digit, ten_mono, behind_blanks}
@@ -15,15 +15,11 @@ pub same_text_lem : (s t : List ℕ) → same_text s t ≡ true → s ≡ t
 same_text_lem [] [] e = refl
 same_text_lem [] (b ∷ t) e = cc
 same_text_lem (a ∷ s) [] e = cc
-same_text_lem (a ∷ s) (b ∷ t) e =
-    let p = and_parts (eqb a b) (same_text s t) e in
-    let h = eqb-true a b p.0 in
-    let r = same_text_lem s t p.1 in
-    cc
+same_text_lem (a ∷ s) (b ∷ t) e = grind (arith, same_text_lem s t)
 
 pub text_same : (t : List ℕ) → same_text t t ≡ true
 text_same [] = refl
-text_same (b ∷ t) = and_from (eqb b b) (same_text t t) (eq-eqb b b refl) (text_same t)
+text_same (b ∷ t) = grind (arith, text_same t)
 
 -- blanks in front say nothing
 said_blanks : (k : ℕ) (t : List ℕ) → said (replicate k 32 ++ t) ≡ said t

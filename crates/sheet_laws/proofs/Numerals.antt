@@ -35,7 +35,7 @@ small lo hi (pos n) h e = let d = length-decimal-le 6 n (omega arith) in grind a
 small lo hi (negsuc n) h e = cc
 
 wide : (z : ℤ) → (le_z (negsuc 2147483647) z && le_z z (pos 2147483647)) ≡ true → (length (signed_decimal z) ≤ 12) × (mag z < 2 ^ 63)
-wide (pos n) e = let p = and_parts true (le_z (pos n) (pos 2147483647)) e in let k = leb-true n 2147483647 p.1 in (length_signed_le 11 (pos n) (omega arith) (omega arith), omega arith)
+wide (pos n) e = let l = length_signed_le 11 (pos n) in grind arith
 wide (negsuc n) e = let p = and_parts (le_z (negsuc 2147483647) (negsuc n)) true e in let k = leb-true n 2147483647 p.0 in (length_signed_le 11 (negsuc n) (omega arith) (omega arith), omega arith)
 
 both : (f : Field) (z : ℤ) → (length (signed_decimal z) ≤ width_of f) × (mag z < 2 ^ 63) → Short f z

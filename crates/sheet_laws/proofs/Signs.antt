@@ -24,7 +24,7 @@ sign_step s w n h k =
     ap (λ x. column w (s ++ x)) (decimal_step n h k) ∙ ap (column w) (sym (append_assoc s (decimal (n / 10)) ((48 + n % 10) ∷ []))) ∙ column_push w (s ++ decimal (n / 10)) (48 + n % 10)
 
 pub long_one : (s : List ℕ) (n : ℕ) → n < 2 ^ 64 → length s + 1 ≤ length (s ++ decimal n)
-long_one s n h = let d = decimal_nonempty n h in let a = length-append s (decimal n) in omega arith
+long_one s n h = omega (arith, decimal_nonempty n h, length-append s (decimal n))
 
 pub long_step : (s : List ℕ) (n : ℕ) → 10 ≤ n → n < 2 ^ 64 → length (s ++ decimal n) ≡ length (s ++ decimal (n / 10)) + 1
 long_step s n h k =
@@ -38,10 +38,7 @@ set_blank zero v = refl
 set_blank (suc k) v = ap (λ x. 32 ∷ x) (set_blank k v)
 
 pub sign_written : (w : ℕ) (xs : List ℕ) (b : Bool) → b ≡ true → 0 < w → xs ≡ replicate w 32 → length xs ≡ w → set xs (length xs - 1) 45 ≡ column w (minus_text b)
-sign_written (suc w) xs true t h e l =
-    let i : length xs - 1 ≡ w = omega arith in
-    let j : suc w - 1 ≡ w = omega arith in
-    ap (λ x. set x (length xs - 1) 45) e ∙ ap (λ n. set (replicate (suc w) 32) n 45) i ∙ set_blank w 45 ∙ ap (λ n. replicate n 32 ++ 45 ∷ []) (sym j)
+sign_written (suc w) xs true t h e l = let j : suc w - 1 ≡ w = omega arith in rw (l, e, j) (set_blank w 45)
 sign_written zero xs b t h e l = absurd (omega arith)
 sign_written (suc w) xs false t h e l = cc
 

@@ -1,7 +1,6 @@
 -- A text taken line by line. Assumes nothing.
-use Rattle.std.proofs.Common.{◌≡◌, ℕ, suc, ◌+◌, ◌<◌, ◌≤◌, eqb, List, [], ◌∷◌, length, get_or, take, drop, Ok, Err, Result, sym, refl, ap, ◌∙◌, ⊎_elim, arith, MatchResult}
+use Rattle.std.proofs.Common.{◌≡◌, ℕ, suc, ◌+◌, ◌<◌, ◌≤◌, List, [], ◌∷◌, length, get_or, take, drop, Ok, Err, Result, sym, refl, ap, ◌∙◌, arith, MatchResult}
 use Rattle.std.proofs.lemmas.List.{at_drop_more}
-use Rattle.std.proofs.lemmas.Bool.{cond-true, cond-false, cases_Bool}
 use Rattle.sheet.specs.Maps.{and_then, raised}
 use Rattle.sheet.specs.Reading.{TextSheet, line_taken, ahead, lines, line_length, lines_read}
 use Rattle.sheet.specs.declared.faults.LineFault.{LineFault}
@@ -33,15 +32,7 @@ longer b (x ∷ t) more = ap (ahead b) (more (omega arith))
 pub lines_first : (t : List ℕ) → 0 < length t → lines t ≡ take (line_length t) t ∷ lines (drop (line_length t) t)
 unfolding lines
 lines_first [] h = absurd (omega arith)
-lines_first (b ∷ t) h =
-    ⊎_elim
-    (λ e.
-    let c = cond-true (eqb b 10) 1 (suc (line_length t)) e in
-    cond-true (eqb b 10) ((b ∷ []) ∷ lines t) (ahead b (lines t)) e ∙ ap (λ n. take n (b ∷ t) ∷ lines (drop n (b ∷ t))) (sym c))
-    (λ e.
-    let c = cond-false (eqb b 10) 1 (suc (line_length t)) e in
-    cond-false (eqb b 10) ((b ∷ []) ∷ lines t) (ahead b (lines t)) e ∙ longer b t (lines_first t) ∙ ap (λ n. take n (b ∷ t) ∷ lines (drop n (b ∷ t))) (sym c))
-    (cases_Bool (eqb b 10))
+lines_first (b ∷ t) h = let l = longer b t (lines_first t) in grind arith
 
 module _ (k : ℕ) (s : TextSheet) (rest line tail : List ℕ) (some : 0 < length rest) (front : line ≡ take (line_length rest) rest) (back : tail ≡ drop (line_length rest) rest) where
   first : lines_read k s (lines rest) ≡ and_then (raised (AtLine k) (line_taken s line)) (λ next. lines_read (suc k) next (lines tail))
