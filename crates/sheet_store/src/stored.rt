@@ -1,4 +1,4 @@
-// What can be done with a stored sheet: made, emptied, added to at its end, looked at.
+// A sheet in storage, and what can be done with it: made, emptied, added to at its end, looked at.
 ghost use Rattle.std.specs.Prelude.{◌≡◌, ℕ, ◌+◌, ◌<◌, ◌≤◌, [], ◌∷◌, ◌++◌, length, IfOk, vec_len, vec_capacity, MatchResult, drop};
 ghost use Rattle.std.specs.List.{slice_get};
 ghost use Rattle.std.specs.Option.{option_map};
@@ -32,7 +32,7 @@ struct Header {
     handlers_begin: usize,
 }
 
-// What a method has a part of: the code of all methods, or their handlers.
+// A part of a method: its code, or its handlers.
 #[derive(Clone, Copy)]
 enum Part {
     Code,
@@ -40,7 +40,7 @@ enum Part {
 }
 
 impl Header {
-    // Where the method's part begins.
+    // Where this part of the method begins.
     fn begin(&self, part: Part) -> usize
         ensures { result ≡ begin part self.now }
     {
@@ -76,8 +76,9 @@ impl fmt::Display for AddFault {
 
 impl Error for AddFault {}
 
-// A sheet in memory that is reserved for the largest one, so that nothing after the making can want memory.
-// Its instructions are of one sort `I` and its handlers of one sort `H`. Contracts see it as the sheet that it holds.
+// A sheet in memory that is reserved for the largest one, so that nothing after the making can want
+// memory. Its instructions are of one sort `I` and its handlers of one sort `H`.
+// Contracts see it as the sheet that it holds.
 #[derive(Drop)]
 pub struct StoredSheet<I, H> {
     library: Vec<Signature>,
@@ -297,7 +298,7 @@ fn push_within<T: Copy>(list: &mut Vec<T>, most: usize, x: T) -> Result<(), AddF
     Ok(())
 }
 
-// From where to where the part of a method stands in a list of n: up to where the next method's begins.
+// From where to where a method's part stands in a list of n: up to where the next method's begins.
 fn bounds(headers: &[Header], method: usize, part: Part, n: usize) -> (usize, usize)
     requires { Ordered part headers.now n }
     ensures begins { result.0 ≡ start part (drop method headers.now) n }
