@@ -1,10 +1,11 @@
 -- The text of a line has one line feed, at its end, so it is the first line of what it begins. Assumes nothing.
-use Rattle.std.proofs.Common.{◌≡◌, ℕ, zero, suc, ◌+◌, ◌-◌, ◌%◌, ◌^◌, ◌<◌, true, eqb, List, [], ◌∷◌, ◌++◌, length, drop, replicate, ℤ, pos, negsuc, decimal, refl, ap, ◌∙◌, arith}
+use Rattle.std.proofs.Common.{◌≡◌, ℕ, zero, suc, ◌+◌, ◌-◌, ◌%◌, ◌^◌, ◌<◌, true, List, [], ◌∷◌, ◌++◌, length, drop, replicate, ℤ, pos, negsuc, decimal, refl, ap, ◌∙◌, arith}
 use lib.Signed.{mag}
+use Rattle.std.specs.List.{AllByRecursion}
 use Rattle.std.specs.Fmt.{signed_decimal}
 use Rattle.std.proofs.lemmas.Fmt.{decimal_by_steps}
 use Rattle.std.proofs.lemmas.List.{append_assoc, length-append, length_push, take_at, drop_at}
-use Rattle.std.proofs.lemmas.Bool.{and_parts, ne_eqb, cond-false}
+use Rattle.std.proofs.lemmas.Bool.{and_parts}
 use Rattle.sheet.specs.Bounds.{all_allowed}
 use Rattle.sheet.specs.Columns.{column, allowed}
 use Rattle.sheet.specs.Fields.{width_of, fields_of, letter_byte}
@@ -20,8 +21,7 @@ use Rattle.sheet_laws.proofs.Splits.{lines_first}
 
 -- no byte is a line feed
 abbrev Unbroken : List ℕ → Type 0
-Unbroken [] = Unit {0}
-Unbroken (b ∷ t) = (b ≡ 10 → ⊥) × Unbroken t
+Unbroken = AllByRecursion (λ b. b ≡ 10 → ⊥)
 
 unbroken_both : (s t : List ℕ) → Unbroken s → Unbroken t → Unbroken (s ++ t)
 unbroken_both [] t p q = q
@@ -55,7 +55,7 @@ letter_unbroken X e = omega arith
 
 first_length : (t rest : List ℕ) → Unbroken t → line_length (t ++ 10 ∷ rest) ≡ length t + 1
 first_length [] rest p = refl
-first_length (b ∷ t) rest (h, p) = let c = cond-false (eqb b 10) 1 (suc (line_length (t ++ 10 ∷ rest))) (ne_eqb b 10 h) in let r = first_length t rest p in omega arith
+first_length (b ∷ t) rest (h, p) = let r = first_length t rest p in grind arith
 
 -- the line of a record ahead of anything
 pub lines_line : (x : Line) (rest : List ℕ) → permitted x ≡ true → lines (text_of x ++ rest) ≡ text_of x ∷ lines rest

@@ -1,7 +1,6 @@
 -- A line taken apart: letter, fields, line feed. Assumes nothing.
 use Rattle.std.proofs.Common.{◌≡◌, ℕ, ◌-◌, ◌<◌, cond, eqb, List, [], ◌∷◌, length, get_or, take, drop, Some, Ok, Err, sym, ap, ◌∙◌, arith}
 use Rattle.std.proofs.lemmas.List.{take_rest}
-use Rattle.std.proofs.lemmas.Bool.{eq-eqb, ne_eqb, cond-true, cond-false}
 use Rattle.sheet.specs.Fields.{letter_of, widths, fields_of}
 use Rattle.sheet.specs.Lines.{parted, behind_letter, last_byte, front}
 use Rattle.sheet.specs.declared.fields.Letter.{Letter}
@@ -20,14 +19,14 @@ module _ (line : List ℕ) (l : Letter) (some : 0 < length line) (is : letter_of
       by_first (b ∷ t) h e = ap (λ o. behind_letter o t) e ∙ ap (behind_letter (Some l)) (sym (take_rest (b ∷ t) 1))
 
   pub parted_unended : (last_byte (behind line) ≡ 10 → ⊥) → parted line ≡ Err NoLineFeed
-  parted_unended no_feed = parted_letter ∙ cond-false (eqb (last_byte (behind line)) 10) _ _ (ne_eqb _ 10 no_feed)
+  parted_unended no_feed = let l = parted_letter in grind arith
 
   module _ (feed : last_byte (behind line) ≡ 10) where
     ended : parted line ≡ cond (eqb (length (front (behind line))) (widths (fields_of l))) (Ok (l, front (behind line))) (Err WrongLength)
-    ended = parted_letter ∙ cond-true (eqb (last_byte (behind line)) 10) _ _ (eq-eqb _ 10 feed)
+    ended = let l = parted_letter in grind arith
 
     pub parted_long : (length (front (behind line)) ≡ widths (fields_of l) → ⊥) → parted line ≡ Err WrongLength
-    parted_long other = ended ∙ cond-false (eqb (length (front (behind line))) (widths (fields_of l))) _ _ (ne_eqb _ _ other)
+    parted_long other = let e = ended in grind arith
 
     pub parted_ok : length (front (behind line)) ≡ widths (fields_of l) → parted line ≡ Ok (l, front (behind line))
-    parted_ok same = ended ∙ cond-true (eqb (length (front (behind line))) (widths (fields_of l))) _ _ (eq-eqb _ _ same)
+    parted_ok same = let e = ended in grind arith

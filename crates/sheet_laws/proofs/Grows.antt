@@ -1,8 +1,8 @@
 -- A sheet with one line more: its text and its bounds. Assumes nothing.
-use Rattle.std.proofs.Common.{◌≡◌, ℕ, suc, ◌+◌, ◌<◌, ◌≤◌, Bool, true, false, cond, ltb, leb, List, [], ◌∷◌, ◌++◌, length, Ok, Err, Result, sym, refl, ap, ◌∙◌, subst, ⊎_elim, arith}
+use Rattle.std.proofs.Common.{◌≡◌, ℕ, suc, ◌+◌, ◌<◌, ◌≤◌, Bool, true, false, cond, List, [], ◌∷◌, ◌++◌, length, Ok, Err, Result, sym, refl, ap, ◌∙◌, subst, arith}
 use Rattle.std.specs.List.{flat_map}
 use Rattle.std.proofs.lemmas.List.{append_assoc, append-nil, length_push, flat_map_more}
-use Rattle.std.proofs.lemmas.Bool.{and_parts, and_from, leb-true, le-leb, ltb-true, cond-true, cond-false, cases_Bool}
+use Rattle.std.proofs.lemmas.Bool.{and_parts, and_from}
 use Rattle.sheet.specs.Bounds.{every, all_allowed, method_allowed, few_enough, in_range}
 use Rattle.sheet.specs.Fields.{fields_of}
 use Rattle.sheet.specs.Reading.{TextSheet, none, counted, added}
@@ -44,21 +44,15 @@ pub record Within (s : TextSheet) : Type 0 where
   pub own : every method_allowed s.methods ≡ true
 
 pub within_from : (s : TextSheet) → in_range s ≡ true → Within s
-within_from s e =
-    let p = and_parts (few_enough s) _ e in
-    let a = and_parts (leb (length s.library) 32) _ p.0 in
-    let b = and_parts (leb (length s.methods) 16) _ a.1 in
-    let c = and_parts (leb (instructions_in s.methods) 2048) _ b.1 in
-    let q = and_parts (every signature_fits s.library) _ p.1 in
-    record { signatures = leb-true _ 32 a.0; methods = leb-true _ 16 b.0; instructions = leb-true _ 2048 c.0; handlers = leb-true _ 256 c.1; library = q.0; own = q.1 }
+within_from s e = let p = and_parts (few_enough s) _ e in grind arith
 
 pub within_to : (s : TextSheet) → Within s → in_range s ≡ true
-within_to s w = and_from _ _ (and_from _ _ (le-leb _ 32 w.signatures) (and_from _ _ (le-leb _ 16 w.methods) (and_from _ _ (le-leb _ 2048 w.instructions) (le-leb _ 256 w.handlers)))) (and_from _ _ w.library w.own)
+within_to s w = grind arith
 
 -- one more at the end
 pub every_push : {X : Type 0} (test : X → Bool) (xs : List X) (x : X) → every test xs ≡ true → test x ≡ true → every test (xs ++ x ∷ []) ≡ true
 every_push test [] x e h = and_from (test x) true h refl
-every_push test (y ∷ xs) x e h = let p = and_parts (test y) (every test xs) e in and_from (test y) _ p.0 (every_push test xs x p.1 h)
+every_push test (y ∷ xs) x e h = grind (arith, every_push test xs x)
 
 every_last : {X : Type 0} (test : X → Bool) (f : X → X) (xs : List X) → ((x : X) → test x ≡ true → test (f x) ≡ true) → every test xs ≡ true → every test (on_last f xs) ≡ true
 every_last test f [] k e = refl
@@ -113,15 +107,12 @@ instructions_handler x (m ∷ []) = refl
 instructions_handler x (m ∷ (n ∷ ms)) = ap (λ k. length m.code + k) (instructions_handler x (n ∷ ms))
 
 -- the text after one record more
-joined_push : {X : Type 0} (f : X → List ℕ) (xs : List X) (x : X) → flat_map f (xs ++ x ∷ []) ≡ flat_map f xs ++ f x
-joined_push f xs x = sym (flat_map_more f [] xs x)
-
 no_handlers : (m : TextMethod) → none m.handlers ≡ true → flat_map handler_text m.handlers ≡ []
 no_handlers m e = by_list m.handlers e
   where
     by_list : (xs : List (Handler PlainLocation)) → none xs ≡ true → flat_map handler_text xs ≡ []
     by_list [] h = refl
-    by_list (x ∷ xs) h = absurd (let z : ◌≡◌ {A = ℕ} 0 1 = cc in omega arith)
+    by_list (x ∷ xs) h = cc
 
 code_text_lem : (x : ReadInstruction) (m : TextMethod) → none m.handlers ≡ true → method_text (with_code (pushed x) m) ≡ method_text m ++ instruction_text x
 code_text_lem x m e =
@@ -129,7 +120,7 @@ code_text_lem x m e =
     let t = flat_map instruction_text m.code in
     let n = no_handlers m e in
     ap (λ u. s ++ (flat_map instruction_text (m.code ++ x ∷ []) ++ u)) n
-    ∙ ap (λ u. s ++ u) (append-nil (flat_map instruction_text (m.code ++ x ∷ [])) ∙ joined_push instruction_text m.code x ∙ ap (λ u. u ++ instruction_text x) (sym (append-nil t) ∙ ap (λ u. t ++ u) (sym n)))
+    ∙ ap (λ u. s ++ u) (append-nil (flat_map instruction_text (m.code ++ x ∷ [])) ∙ sym (flat_map_more instruction_text [] m.code x) ∙ ap (λ u. u ++ instruction_text x) (sym (append-nil t) ∙ ap (λ u. t ++ u) (sym n)))
     ∙ sym (append_assoc s (t ++ flat_map handler_text m.handlers) (instruction_text x))
 
 handler_text_lem : (x : Handler PlainLocation) (m : TextMethod) → method_text (with_handlers (pushed x) m) ≡ method_text m ++ handler_text x
@@ -137,11 +128,11 @@ handler_text_lem x m =
     let s = shape_text m.shape in
     let t = flat_map instruction_text m.code in
     let u = flat_map handler_text m.handlers in
-    ap (λ v. s ++ (t ++ v)) (joined_push handler_text m.handlers x) ∙ ap (λ v. s ++ v) (sym (append_assoc t u (handler_text x))) ∙ sym (append_assoc s (t ++ u) (handler_text x))
+    ap (λ v. s ++ (t ++ v)) (sym (flat_map_more handler_text [] m.handlers x)) ∙ ap (λ v. s ++ v) (sym (append_assoc t u (handler_text x))) ∙ sym (append_assoc s (t ++ u) (handler_text x))
 
 -- a change at the end of the last method is one at the end of the text
 last_text : (f : TextMethod → TextMethod) (more : List ℕ) (ms : List TextMethod) → none ms ≡ false → method_text (f (last_method ms)) ≡ method_text (last_method ms) ++ more → flat_map method_text (on_last f ms) ≡ flat_map method_text ms ++ more
-last_text f more [] n e = absurd (let z : ◌≡◌ {A = ℕ} 0 1 = cc in omega arith)
+last_text f more [] n e = cc
 last_text f more (m ∷ []) n e = append-nil (method_text (f m)) ∙ e ∙ ap (λ t. t ++ more) (sym (append-nil (method_text m)))
 last_text f more (m ∷ (k ∷ ms)) n e = ap (λ t. method_text m ++ t) (last_text f more (k ∷ ms) refl e) ∙ sym (append_assoc (method_text m) (flat_map method_text (k ∷ ms)) more)
 
@@ -150,24 +141,18 @@ bare_text x = append-nil (shape_text x)
 
 -- what may be counted once more
 counted_is : (what : Counted) (n most : ℕ) (s t : TextSheet) → counted what n most s ≡ Ok t → (n < most) × (s ≡ t)
-counted_is what n most s t e =
-    ⊎_elim
-    (λ b. let r = sym (cond-true (ltb n most) (Ok s) _ b) ∙ e in let same : s ≡ t = cc in (ltb-true n most b, same))
-    (λ b. absurd (let r = sym (cond-false (ltb n most) (Ok s) _ b) ∙ e in let z : ◌≡◌ {A = ℕ} 0 1 = cc in omega arith))
-    (cases_Bool (ltb n most))
+counted_is what n most s t e = grind arith
 
 -- a chosen way that came to an end
 if_ok : {A : Type 0} (b : Bool) (x y : Result A LineFault) (a : A) (f : LineFault) → y ≡ Err f → cond b x y ≡ Ok a → (b ≡ true) × (x ≡ Ok a)
-if_ok true x y a f e h = (refl, h)
-if_ok false x y a f e h = absurd (let r = sym e ∙ h in let z : ◌≡◌ {A = ℕ} 0 1 = cc in omega arith)
+if_ok b x y a f e h = grind arith
 
 if_not : {A : Type 0} (b : Bool) (x y : Result A LineFault) (a : A) (f : LineFault) → x ≡ Err f → cond b x y ≡ Ok a → (b ≡ false) × (y ≡ Ok a)
-if_not false x y a f e h = (refl, h)
-if_not true x y a f e h = absurd (let r = sym e ∙ h in let z : ◌≡◌ {A = ℕ} 0 1 = cc in omega arith)
+if_not b x y a f e h = grind arith
 
 none_nil : {X : Type 0} (xs : List X) → none xs ≡ true → xs ≡ []
 none_nil [] e = refl
-none_nil (x ∷ xs) e = absurd (let z : ◌≡◌ {A = ℕ} 0 1 = cc in omega arith)
+none_nil (x ∷ xs) e = cc
 
 -- a sheet that took a line has its text with that line behind it, and is still within the bounds
 pub record Grown (s t : TextSheet) (x : Line) : Type 0 where
@@ -181,7 +166,7 @@ library_grown s t x w h e =
     let n = none_nil s.methods a.0 in
     let l = length_push s.library x in
     let j = ap (flat_map method_text) n in
-    let text : sheet_text (with_library (pushed x s.library) s) ≡ sheet_text s ++ signature_text x = ap (λ u. flat_map signature_text (s.library ++ x ∷ []) ++ u) j ∙ append-nil _ ∙ joined_push signature_text s.library x ∙ ap (λ u. u ++ signature_text x) (sym (append-nil _) ∙ ap (λ u. flat_map signature_text s.library ++ u) (sym j)) in
+    let text : sheet_text (with_library (pushed x s.library) s) ≡ sheet_text s ++ signature_text x = ap (λ u. flat_map signature_text (s.library ++ x ∷ []) ++ u) j ∙ append-nil _ ∙ sym (flat_map_more signature_text [] s.library x) ∙ ap (λ u. u ++ signature_text x) (sym (append-nil _) ∙ ap (λ u. flat_map signature_text s.library ++ u) (sym j)) in
     let grown : Grown s (with_library (pushed x s.library) s) (Library x) = record { text = text; bounds = record { signatures = omega arith; methods = w.methods; instructions = w.instructions; handlers = w.handlers; library = every_push signature_fits s.library x w.library h; own = w.own } } in
     subst (λ y. Grown s y (Library x)) b.1 grown
 
@@ -191,7 +176,7 @@ method_grown s t x w h e =
     let l = length_push s.methods (bare x) in
     let i = instructions_push s.methods (bare x) in
     let g = handlers_push s.methods (bare x) in
-    let text : sheet_text (with_methods (pushed (bare x) s.methods) s) ≡ sheet_text s ++ shape_text x = ap (λ u. flat_map signature_text s.library ++ u) (joined_push method_text s.methods (bare x) ∙ ap (λ u. flat_map method_text s.methods ++ u) (bare_text x)) ∙ sym (append_assoc (flat_map signature_text s.library) (flat_map method_text s.methods) (shape_text x)) in
+    let text : sheet_text (with_methods (pushed (bare x) s.methods) s) ≡ sheet_text s ++ shape_text x = ap (λ u. flat_map signature_text s.library ++ u) (sym (flat_map_more method_text [] s.methods (bare x)) ∙ ap (λ u. flat_map method_text s.methods ++ u) (bare_text x)) ∙ sym (append_assoc (flat_map signature_text s.library) (flat_map method_text s.methods) (shape_text x)) in
     let grown : Grown s (with_methods (pushed (bare x) s.methods) s) (OwnMethod x) = record { text = text; bounds = record { signatures = w.signatures; methods = omega arith; instructions = omega (arith, w.instructions); handlers = omega (arith, w.handlers); library = w.library; own = every_push method_allowed s.methods (bare x) w.own (and_from _ true h refl) } } in
     subst (λ y. Grown s y (OwnMethod x)) b.1 grown
 

@@ -1,29 +1,25 @@
 -- A field holds a number exactly when it is that number's text in its columns. Assumes nothing.
-use Rattle.std.proofs.Common.{◌≡◌, ℕ, zero, suc, ◌+◌, ◌-◌, ◌*◌, ◌^◌, ◌<◌, ◌≤◌, true, cond, eqb, List, [], ◌∷◌, ◌++◌, length, get_or, replicate, ℤ, pos, negsuc, neg_ℤ, Some, None, decimal, Option, sym, refl, ap, ◌∙◌, subst, ⊎_elim, mul-le-mul_right, mul_assoc, arith, MatchOption}
+use Rattle.std.proofs.Common.{◌≡◌, ℕ, zero, suc, ◌+◌, ◌-◌, ◌*◌, ◌^◌, ◌<◌, ◌≤◌, true, eqb, List, [], ◌∷◌, ◌++◌, length, get_or, replicate, ℤ, pos, negsuc, neg_ℤ, Some, None, decimal, Option, sym, refl, ap, ◌∙◌, subst, ⊎_elim, mul-le-mul_right, mul_assoc, arith, MatchOption}
 use native.Mathlib.Nat.{pow-succ'}
 use lib.Signed.{mag}
 use Rattle.std.specs.Str.Parse.{digits_value, digits_value_after}
 use Rattle.std.specs.Char.{digit_value}
 use Rattle.std.specs.Fmt.{signed_decimal}
 use Rattle.std.proofs.lemmas.Fmt.{decimal_nonempty, digits_value-decimal}
-use Rattle.std.proofs.lemmas.Bool.{and_parts, and_from, eqb-true, eq-eqb, ne_eqb, cond-true, cond-false, cases_Bool}
+use Rattle.std.proofs.lemmas.Bool.{cond-true, cond-false, cases_Bool}
 use Rattle.sheet.specs.Columns.{column, same_text, said, held}
 use Rattle.sheet.specs.Laws.{FieldLaw}
 use Rattle.sheet_laws.proofs.Columns.{own, first_digit, ten_mono, behind_blanks}
 
 pub same_text_lem : (s t : List ℕ) → same_text s t ≡ true → s ≡ t
 same_text_lem [] [] e = refl
-same_text_lem [] (b ∷ t) e = absurd (let z : ◌≡◌ {A = ℕ} 0 1 = cc in omega arith)
-same_text_lem (a ∷ s) [] e = absurd (let z : ◌≡◌ {A = ℕ} 0 1 = cc in omega arith)
-same_text_lem (a ∷ s) (b ∷ t) e =
-    let p = and_parts (eqb a b) (same_text s t) e in
-    let h = eqb-true a b p.0 in
-    let r = same_text_lem s t p.1 in
-    cc
+same_text_lem [] (b ∷ t) e = cc
+same_text_lem (a ∷ s) [] e = cc
+same_text_lem (a ∷ s) (b ∷ t) e = grind (arith, same_text_lem s t)
 
 pub text_same : (t : List ℕ) → same_text t t ≡ true
 text_same [] = refl
-text_same (b ∷ t) = and_from (eqb b b) (same_text t t) (eq-eqb b b refl) (text_same t)
+text_same (b ∷ t) = grind (arith, text_same t)
 
 -- blanks in front say nothing
 said_blanks : (k : ℕ) (t : List ℕ) → said (replicate k 32 ++ t) ≡ said t
@@ -34,10 +30,7 @@ said_blanks (suc k) t = said_blanks k t
 said_digits : (t : List ℕ) → 0 < length t → 48 ≤ get_or t 0 0 → said t ≡ pos (digits_value 10 t)
 unfolding said
 said_digits [] h k = absurd (omega arith)
-said_digits (b ∷ t) h k =
-    let p = cond-false (eqb b 32) (said t) (cond (eqb b 45) (neg_ℤ (pos (digits_value 10 t))) (pos (digits_value 10 (b ∷ t)))) (ne_eqb b 32 (λ e. omega arith)) in
-    let q = cond-false (eqb b 45) (neg_ℤ (pos (digits_value 10 t))) (pos (digits_value 10 (b ∷ t))) (ne_eqb b 45 (λ e. omega arith)) in
-    p ∙ q
+said_digits (b ∷ t) h k = grind arith
 
 said_signed : (z : ℤ) → mag z < 2 ^ 63 → said (signed_decimal z) ≡ z
 unfolding said
@@ -59,7 +52,7 @@ unfolding held
 held_is t z e =
     ⊎_elim
     (λ b. let s = sym (cond-true _ (Some (said t)) None b) ∙ e in let y : said t ≡ z = cc in sym (same_text_lem _ t b) ∙ ap (λ x. column (length t) (signed_decimal x)) y)
-    (λ b. absurd (let s = sym (cond-false _ (Some (said t)) None b) ∙ e in let y : ◌≡◌ {A = ℕ} 0 1 = cc in omega arith))
+    (λ b. let s = sym (cond-false _ (Some (said t)) None b) ∙ e in cc)
     (cases_Bool (same_text (column (length t) (signed_decimal (said t))) t))
 
 -- no more is said than the columns have room for

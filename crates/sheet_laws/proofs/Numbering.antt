@@ -1,8 +1,8 @@
 -- Ops and kinds and their numbers. Assumes nothing.
-use Rattle.std.proofs.Common.{◌≡◌, ℕ, zero, suc, ◌+◌, ◌<◌, Bool, true, ◌&&◌, eqb, ◌⊎◌, List, [], ◌∷◌, length, Some, None, sym, refl, ap, ◌∙◌, inl, inr, ⊎_elim, arith}
+use Rattle.std.proofs.Common.{◌≡◌, ℕ, zero, suc, ◌+◌, ◌<◌, Bool, true, ◌&&◌, eqb, ◌⊎◌, List, [], ◌∷◌, Some, None, refl, ap, inl, arith}
 use Rattle.std.specs.List.{slice_get}
 use Rattle.std.proofs.lemmas.Option.{slice_get-get_or as slice_get_or}
-use Rattle.std.proofs.lemmas.Bool.{and_parts, eqb-true, cond-true, cond-false, cases_Bool, cases_lt}
+use Rattle.std.proofs.lemmas.Bool.{and_parts, eqb-true}
 use Rattle.sheet.specs.Laws.{NumberLaw}
 use Rattle.sheet.specs.Numbers.{kind_number, kind_numbered}
 use Rattle.sheet.specs.Ops.{ops, op_number, op_numbered}
@@ -37,40 +37,28 @@ numbered k [] = true
 numbered k (o ∷ os) = eqb (op_number o) k && numbered (suc k) os
 
 pub numbered_at : (k : ℕ) (os : List Op) (i : ℕ) (op : Op) → numbered k os ≡ true → slice_get os i ≡ Some op → op_number op ≡ k + i
-numbered_at k [] i op e h = absurd (let z : ◌≡◌ {A = ℕ} 0 1 = cc in omega arith)
+numbered_at k [] i op e h = cc
 numbered_at k (o ∷ os) zero op e h =
     let p = and_parts (eqb (op_number o) k) (numbered (suc k) os) e in
     let q = eqb-true (op_number o) k p.0 in
     let same : o ≡ op = cc in
     omega (arith, ap op_number same)
-numbered_at k (o ∷ os) (suc i) op e h = let p = and_parts (eqb (op_number o) k) (numbered (suc k) os) e in let r = numbered_at (suc k) os i op p.1 h in omega arith
+numbered_at k (o ∷ os) (suc i) op e h = grind (arith, numbered_at (suc k) os i op)
 
 pub op_numbered_lem : (n : ℕ) (op : Op) → op_numbered n ≡ Some op → op_number op ≡ n
-op_numbered_lem zero op e = absurd (let z : ◌≡◌ {A = ℕ} 0 1 = cc in omega arith)
+op_numbered_lem zero op e = cc
 op_numbered_lem (suc n) op e = let r = numbered_at 1 ops n op refl e in omega arith
 
 op_none : (n : ℕ) → op_numbered n ≡ None → (n ≡ 0) ⊎ (18 < n)
 op_none zero e = inl refl
-op_none (suc n) e =
-    ⊎_elim
-    (λ h. absurd (let s = slice_get_or ops n LoadConstant h in let z : ◌≡◌ {A = ℕ} 0 1 = cc in omega arith))
-    (λ h. inr (omega arith))
-    (cases_lt n (length ops))
+op_none (suc n) e = grind (arith, slice_get_or ops n LoadConstant)
 
 pub kind_found : (k : Kind) → kind_numbered (kind_number k) ≡ Some k
 kind_found Every = refl
 kind_found SecurityOnly = refl
 
 pub kind_numbered_lem : (n : ℕ) (k : Kind) → kind_numbered n ≡ Some k → kind_number k ≡ n
-kind_numbered_lem n k e =
-    ⊎_elim
-    (λ b. let s = sym (cond-true (eqb n 1) (Some Every) _ b) ∙ e in let same : Every ≡ k = cc in ap kind_number (sym same) ∙ sym (eqb-true n 1 b))
-    (λ b. let s = sym (cond-false (eqb n 1) (Some Every) _ b) ∙ e in
-    ⊎_elim
-    (λ c. let t = sym (cond-true (eqb n 2) (Some SecurityOnly) None c) ∙ s in let same : SecurityOnly ≡ k = cc in ap kind_number (sym same) ∙ sym (eqb-true n 2 c))
-    (λ c. absurd (let t = sym (cond-false (eqb n 2) (Some SecurityOnly) None c) ∙ s in let z : ◌≡◌ {A = ℕ} 0 1 = cc in omega arith))
-    (cases_Bool (eqb n 2)))
-    (cases_Bool (eqb n 1))
+kind_numbered_lem n k e = grind arith
 
 pub number_law : NumberLaw
 number_law = record { op_found = op_found; op_numbered_lem = op_numbered_lem; op_none = op_none; kind_found = kind_found; kind_numbered_lem = kind_numbered_lem }

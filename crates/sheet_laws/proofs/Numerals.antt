@@ -1,10 +1,10 @@
 -- The fields of a line and the numbers in them: written and read again. Assumes nothing.
-use Rattle.std.proofs.Common.{◌≡◌, ℕ, ◌+◌, ◌^◌, ◌<◌, ◌≤◌, true, false, ◌&&◌, List, [], ◌∷◌, ◌++◌, length, take, drop, ℤ, pos, negsuc, Some, None, Ok, Err, Option, Result, sym, refl, ap, ◌∙◌, ⊎_elim, arith}
+use Rattle.std.proofs.Common.{◌≡◌, ℕ, ◌+◌, ◌^◌, ◌<◌, ◌≤◌, true, ◌&&◌, List, [], ◌∷◌, ◌++◌, length, take, drop, ℤ, pos, negsuc, Some, None, Ok, Err, Option, Result, sym, refl, ap, ◌∙◌, arith}
 use lib.Signed.{mag, le_z}
 use Rattle.std.specs.Fmt.{signed_decimal}
 use Rattle.std.proofs.lemmas.Fmt.{length-decimal-le, length_signed_le}
 use Rattle.std.proofs.lemmas.List.{length-append, length-drop, length-take-le, take-append-drop, take_at, drop_at, nil_from_length}
-use Rattle.std.proofs.lemmas.Bool.{and_parts, and_from, leb-true, cond-true, cond-false, cases_Bool}
+use Rattle.std.proofs.lemmas.Bool.{and_parts, and_from, leb-true, cond-true}
 use Rattle.sheet.specs.Bounds.{all_allowed}
 use Rattle.sheet.specs.Columns.{column, held, allowed, judged, field_read}
 use Rattle.sheet.specs.Fields.{width_of, widths}
@@ -19,11 +19,11 @@ use Rattle.sheet_laws.proofs.Places.{length_column}
 -- where a chain came to an end, its first step did
 pub and_then_ok : {X Y E : Type 0} (r : Result X E) (f : X → Result Y E) (y : Y) → and_then r f ≡ Ok y → (x : X) × (r ≡ Ok x) × (f x ≡ Ok y)
 and_then_ok (Ok x) f y e = (x, refl, e)
-and_then_ok (Err g) f y e = absurd (let z : ◌≡◌ {A = ℕ} 0 1 = cc in omega arith)
+and_then_ok (Err g) f y e = cc
 
 pub raised_ok : {X E F : Type 0} (f : E → F) (r : Result X E) (x : X) → raised f r ≡ Ok x → r ≡ Ok x
-raised_ok f (Ok x) y e = let z : x ≡ y = cc in ap Ok z
-raised_ok f (Err g) y e = absurd (let z : ◌≡◌ {A = ℕ} 0 1 = cc in omega arith)
+raised_ok f (Ok x) y e = cc
+raised_ok f (Err g) y e = cc
 
 -- a number that a field may hold is short and has its place in the columns
 pub record Short (f : Field) (z : ℤ) : Type 0 where
@@ -31,14 +31,11 @@ pub record Short (f : Field) (z : ℤ) : Type 0 where
   pub size : mag z < 2 ^ 63
 
 small : (lo hi : ℕ) (z : ℤ) → hi ≤ 2048 → (le_z (pos lo) z && le_z z (pos hi)) ≡ true → (length (signed_decimal z) ≤ 6) × (mag z < 2 ^ 63)
-small lo hi (pos n) h e =
-    let p = and_parts (le_z (pos lo) (pos n)) (le_z (pos n) (pos hi)) e in
-    let k = leb-true n hi p.1 in
-    (length-decimal-le 6 n (omega arith) (omega arith) (omega arith), omega arith)
-small lo hi (negsuc n) h e = absurd (let p = and_parts false (le_z (negsuc n) (pos hi)) e in let z : ◌≡◌ {A = ℕ} 0 1 = cc in omega arith)
+small lo hi (pos n) h e = let d = length-decimal-le 6 n (omega arith) in grind arith
+small lo hi (negsuc n) h e = cc
 
 wide : (z : ℤ) → (le_z (negsuc 2147483647) z && le_z z (pos 2147483647)) ≡ true → (length (signed_decimal z) ≤ 12) × (mag z < 2 ^ 63)
-wide (pos n) e = let p = and_parts true (le_z (pos n) (pos 2147483647)) e in let k = leb-true n 2147483647 p.1 in (length_signed_le 11 (pos n) (omega arith) (omega arith), omega arith)
+wide (pos n) e = let l = length_signed_le 11 (pos n) in grind arith
 wide (negsuc n) e = let p = and_parts (le_z (negsuc 2147483647) (negsuc n)) true e in let k = leb-true n 2147483647 p.0 in (length_signed_le 11 (negsuc n) (omega arith) (omega arith), omega arith)
 
 both : (f : Field) (z : ℤ) → (length (signed_decimal z) ≤ width_of f) × (mag z < 2 ^ 63) → Short f z
@@ -67,12 +64,8 @@ field_reads f z a =
     ap (judged f) h ∙ cond-true (allowed f z) (Ok z) _ a
 
 judged_ok : (f : Field) (o : Option ℤ) (z : ℤ) → judged f o ≡ Ok z → (o ≡ Some z) × (allowed f z ≡ true)
-judged_ok f None z e = absurd (let y : ◌≡◌ {A = ℕ} 0 1 = cc in omega arith)
-judged_ok f (Some y) z e =
-    ⊎_elim
-    (λ b. let s = sym (cond-true (allowed f y) (Ok y) _ b) ∙ e in let same : y ≡ z = cc in (ap Some same, ap (allowed f) (sym same) ∙ b))
-    (λ b. absurd (let s = sym (cond-false (allowed f y) (Ok y) _ b) ∙ e in let n : ◌≡◌ {A = ℕ} 0 1 = cc in omega arith))
-    (cases_Bool (allowed f y))
+judged_ok f None z e = cc
+judged_ok f (Some y) z e = grind arith
 
 -- a field that reads as a number is the text of that number
 field_is : (f : Field) (t : List ℕ) (z : ℤ) → length t ≡ width_of f → field_read f t ≡ Ok z → (t ≡ column (width_of f) (signed_decimal z)) × (allowed f z ≡ true)
@@ -83,8 +76,8 @@ field_is f t z l e =
 -- the same of several fields
 pub numbers_read : (fs : List Field) (zs : List ℤ) → all_allowed fs zs ≡ true → numbers_in fs (columns fs zs) ≡ Ok zs
 numbers_read [] [] a = refl
-numbers_read [] (z ∷ zs) a = absurd (let y : ◌≡◌ {A = ℕ} 0 1 = cc in omega arith)
-numbers_read (f ∷ fs) [] a = absurd (let y : ◌≡◌ {A = ℕ} 0 1 = cc in omega arith)
+numbers_read [] (z ∷ zs) a = cc
+numbers_read (f ∷ fs) [] a = cc
 numbers_read (f ∷ fs) (z ∷ zs) a =
     let p = and_parts (allowed f z) (all_allowed fs zs) a in
     let col = column (width_of f) (signed_decimal z) in
@@ -96,7 +89,7 @@ numbers_read (f ∷ fs) (z ∷ zs) a =
 
 pub numbers_are : (fs : List Field) (t : List ℕ) (zs : List ℤ) → length t ≡ widths fs → numbers_in fs t ≡ Ok zs → (t ≡ columns fs zs) × (all_allowed fs zs ≡ true)
 numbers_are [] t [] l e = (nil_from_length t l, refl)
-numbers_are [] t (z ∷ zs) l e = absurd (let y : ◌≡◌ {A = ℕ} 0 1 = cc in omega arith)
+numbers_are [] t (z ∷ zs) l e = cc
 numbers_are (f ∷ fs) t zs l e =
     let w = width_of f in
     let one = and_then_ok (field_read f (take w t)) _ zs e in
@@ -112,8 +105,8 @@ numbers_are (f ∷ fs) t zs l e =
 -- numbers in their columns are as long as the columns
 pub length_columns : (fs : List Field) (zs : List ℤ) → all_allowed fs zs ≡ true → length (columns fs zs) ≡ widths fs
 length_columns [] [] a = refl
-length_columns [] (z ∷ zs) a = absurd (let y : ◌≡◌ {A = ℕ} 0 1 = cc in omega arith)
-length_columns (f ∷ fs) [] a = absurd (let y : ◌≡◌ {A = ℕ} 0 1 = cc in omega arith)
+length_columns [] (z ∷ zs) a = cc
+length_columns (f ∷ fs) [] a = cc
 length_columns (f ∷ fs) (z ∷ zs) a =
     let p = and_parts (allowed f z) (all_allowed fs zs) a in
     let l = length_column (width_of f) (signed_decimal z) (short f z p.0).text in

@@ -1,14 +1,15 @@
 -- Texts written into a buffer one behind the other. Assumes nothing.
-use Rattle.std.proofs.Common.{◌≡◌, ℕ, ◌+◌, ◌-◌, ◌^◌, ◌<◌, ◌≤◌, List, [], ◌∷◌, ◌++◌, length, get_or, take, drop, set, replicate, decimal, sym, refl, ap, ◌∙◌, add-zero, add-one, arith}
+use Rattle.std.proofs.Common.{◌≡◌, ℕ, ◌+◌, ◌-◌, ◌^◌, ◌<◌, ◌≤◌, List, [], ◌∷◌, ◌++◌, length, get_or, take, drop, set, replicate, decimal, sym, ap, ◌∙◌, add-zero, add-one, arith}
 use borrow.Rule.Slice.PartMut.{put_mid}
 use Rattle.std.specs.List.{flat_map}
 use Rattle.std.proofs.lemmas.Fmt.{length-decimal-le}
+use Rattle.std.proofs.lemmas.Grind.{flat_map-append}
 use Rattle.std.proofs.lemmas.List.{append_assoc, append-nil, flat_map_more, length-append, length-drop, length_push, length-replicate, length-take-le, take-append-drop, take_at, take_more, drop_at, drop-drop, set_split}
 use Rattle.sheet.specs.Columns.{column}
 use Rattle.sheet.specs.Text.{count, placed}
 
 pub length_column : (w : ℕ) (t : List ℕ) → length t ≤ w → length (column w t) ≡ w
-length_column w t h = let a = length-append (replicate (w - length t) 32) t in let b = length-replicate {A = ℕ} (w - length t) 32 in omega arith
+length_column w t h = omega (arith, length-append (replicate (w - length t) 32) t, length-replicate {A = ℕ} (w - length t) 32)
 
 -- a number of 16 bits fits six columns
 pub count_short : (n : ℕ) → n < 2 ^ 16 → length (decimal n) ≤ 6
@@ -19,9 +20,7 @@ placed_byte at b E h = set_split E at b h ∙ ap (λ k. take at E ++ (b ∷ drop
 
 -- the part of a buffer that a column takes
 pub part_length : (at w : ℕ) (E : List ℕ) → at + w ≤ length E → length (take (at + w - at) (drop at E)) ≡ w
-part_length at w E h =
-    let k : at + w - at ≡ w = omega arith in
-    length-take-le (at + w - at) (drop at E) (omega (arith, length-drop at E)) ∙ k
+part_length at w E h = omega (arith, length-take-le (at + w - at) (drop at E), length-drop at E)
 
 -- a column written into that part
 pub placed_column : (at w : ℕ) (E W t : List ℕ) → at + w ≤ length E → length t ≤ w → W ≡ column (length (take (at + w - at) (drop at E))) t → put_mid at (at + w - at) E W ≡ placed at (column w t) E
@@ -47,18 +46,9 @@ module _ (at next : ℕ) (t u E F G : List ℕ) (room : at + length t ≤ length
 
 -- a written buffer is as long as it was
 pub placed_length : (at : ℕ) (t E : List ℕ) → at + length t ≤ length E → length (placed at t E) ≡ length E
-placed_length at t E h =
-    let a = length-append (take at E) (t ++ drop (at + length t) E) in
-    let b = length-append t (drop (at + length t) E) in
-    let c = length-take-le at E (omega arith) in
-    let d = length-drop (at + length t) E in
-    omega arith
+placed_length at t E h = omega (arith, length-append (take at E) (t ++ drop (at + length t) E), length-append t (drop (at + length t) E), length-take-le at E (omega arith), length-drop (at + length t) E)
 
 -- pieces of text that are written one behind the other
-joined_split : {X : Type 0} (f : X → List ℕ) (xs ys : List X) → flat_map f (xs ++ ys) ≡ flat_map f xs ++ flat_map f ys
-joined_split f [] ys = refl
-joined_split f (x ∷ xs) ys = ap (λ t. f x ++ t) (joined_split f xs ys) ∙ sym (append_assoc (f x) (flat_map f xs) (flat_map f ys))
-
 module _ {X : Type 0} (f : X → List ℕ) (xs : List X) (i : ℕ) (x : X) (is : x ≡ get_or xs i x) (inside : i < length xs) where
   -- the pieces up to one are those ahead of it, and then it
   pub joined_next : flat_map f (take (i + 1) xs) ≡ flat_map f (take i xs) ++ f x
@@ -68,7 +58,7 @@ module _ {X : Type 0} (f : X → List ℕ) (xs : List X) (i : ℕ) (x : X) (is :
   pub joined_room : length (flat_map f (take i xs)) + length (f x) ≤ length (flat_map f xs)
   joined_room =
       let a = ap length joined_next ∙ length-append (flat_map f (take i xs)) (f x) in
-      let b = ap (λ ys. length (flat_map f ys)) (sym (take-append-drop (i + 1) xs)) ∙ ap length (joined_split f (take (i + 1) xs) (drop (i + 1) xs)) ∙ length-append (flat_map f (take (i + 1) xs)) (flat_map f (drop (i + 1) xs)) in
+      let b = ap (λ ys. length (flat_map f ys)) (sym (take-append-drop (i + 1) xs)) ∙ ap length (flat_map-append f (take (i + 1) xs) (drop (i + 1) xs)) ∙ length-append (flat_map f (take (i + 1) xs)) (flat_map f (drop (i + 1) xs)) in
       omega arith
 
   module _ (at next : ℕ) (E F G : List ℕ) (room : at + length (flat_map f xs) ≤ length E) (where_next : next ≡ at + length (flat_map f (take i xs))) (before : F ≡ placed at (flat_map f (take i xs)) E) (after : G ≡ placed next (f x) F) where
@@ -87,7 +77,7 @@ length_count n h = length_column 6 (decimal n) (count_short n h)
 
 -- a line of a letter, some text and a line feed
 pub line_length_lem : (b : ℕ) (t : List ℕ) → length (b ∷ (t ++ 10 ∷ [])) ≡ length t + 2
-line_length_lem b t = let p = length_push t 10 in omega arith
+line_length_lem b t = omega (arith, length_push t 10)
 
 module _ (at next end b : ℕ) (t E F G O : List ℕ) (room : at + length (b ∷ (t ++ 10 ∷ [])) ≤ length E) (letter : F ≡ placed at (b ∷ []) E) (behind : next ≡ at + 1) (text : G ≡ placed next t F) (last : end ≡ next + length t) (feed : O ≡ placed end (10 ∷ []) G) where
   pub line_placed : O ≡ placed at (b ∷ (t ++ 10 ∷ [])) E
@@ -112,7 +102,7 @@ module _ (at first second end b : ℕ) (s t E F G H O : List ℕ) (room : at + l
 
 -- three texts one behind the other
 pub three_length : (s t u : List ℕ) → length (s ++ (t ++ u)) ≡ length s + (length t + length u)
-three_length s t u = length-append s (t ++ u) ∙ ap (λ k. length s + k) (length-append t u)
+three_length s t u = omega (arith, length-append s (t ++ u), length-append t u)
 
 module _ (at second third : ℕ) (s t u E F G O : List ℕ) (room : at + length (s ++ (t ++ u)) ≤ length E) (one : F ≡ placed at s E) (at_second : second ≡ at + length s) (two : G ≡ placed second t F) (at_third : third ≡ second + length t) (three : O ≡ placed third u G) where
   pub three_placed : O ≡ placed at (s ++ (t ++ u)) E

@@ -1,9 +1,9 @@
 -- A line and what it says: written and read again. Assumes nothing.
-use Rattle.std.proofs.Common.{◌≡◌, ℕ, zero, suc, ◌+◌, ◌-◌, ◌<◌, Bool, true, false, cond, ◌&&◌, eqb, List, [], ◌∷◌, ◌++◌, length, get_or, take, ℤ, pos, negsuc, nat_abs, Some, None, Ok, Option, unwrap_or, sym, refl, ap, ◌∙◌, ⊎_elim, arith}
+use Rattle.std.proofs.Common.{◌≡◌, ℕ, zero, suc, ◌+◌, ◌-◌, Bool, true, false, ◌&&◌, eqb, List, [], ◌∷◌, ◌++◌, length, get_or, take, ℤ, pos, negsuc, nat_abs, Some, None, Ok, Option, unwrap_or, sym, refl, ap, ◌∙◌, arith, rules}
 use lib.Signed.{le_z}
 use Rattle.std.proofs.lemmas.List.{get_or_push, length_push, take_at, take_all, take_more}
 use Rattle.std.proofs.lemmas.Option.{slice_get-get_or}
-use Rattle.std.proofs.lemmas.Bool.{and_parts, leb-true, eq-eqb, eqb-true, cond-true, cond-false, cases_Bool}
+use Rattle.std.proofs.lemmas.Bool.{and_parts, leb-true}
 use Rattle.sheet.specs.Bounds.{all_allowed}
 use Rattle.sheet.specs.Columns.{allowed}
 use Rattle.sheet.specs.Fields.{fields_of, widths, letter_byte, letter_of}
@@ -59,49 +59,46 @@ flag_back false = refl
 
 -- what the numbers of a line say is the line
 pub numbers_say : (x : Line) → line_of (letter x) (numbers x) ≡ x
-numbers_say (Library x) =
-    let g = flag_back x.gives in
-    let w = flag_back x.watched in
-    ap (λ b. Library (record { arguments = x.arguments; gives = b; watched = eqb (flag x.watched) 1 })) g ∙ ap (λ b. Library (record { arguments = x.arguments; gives = x.gives; watched = b })) w
-numbers_say (Method x) = ap (λ b. Method (record { arguments = x.arguments; gives = b; locals = x.locals; stack_limit = x.stack_limit })) (flag_back x.gives)
-numbers_say (Instruction x) = ap (λ o. Instruction (record { op = o; operand = x.operand })) (op_back x.op)
-numbers_say (Handler x) = ap (λ k. Handler (record { try_begin = x.try_begin; try_end = x.try_end; kind = k; catch_begin = x.catch_begin; catch_end = x.catch_end })) (kind_back x.kind)
+numbers_say (Library x) = rw (flag_back x.gives, flag_back x.watched) refl
+numbers_say (Method x) = rw (flag_back x.gives) refl
+numbers_say (Instruction x) = rw (op_back x.op) refl
+numbers_say (Handler x) = rw (kind_back x.kind) refl
 
 -- a number between two naturals, and one that is a flag, a kind or an op
 natural_back : (lo hi : ℕ) (z : ℤ) → (le_z (pos lo) z && le_z z (pos hi)) ≡ true → pos (nat_abs z) ≡ z
 natural_back lo hi (pos n) e = refl
-natural_back lo hi (negsuc n) e = absurd (let p = and_parts false (le_z (negsuc n) (pos hi)) e in let y : ◌≡◌ {A = ℕ} 0 1 = cc in omega arith)
+natural_back lo hi (negsuc n) e = cc
 
 flag_number : (z : ℤ) → (le_z (pos 0) z && le_z z (pos 1)) ≡ true → pos (flag (eqb (nat_abs z) 1)) ≡ z
 flag_number (pos zero) e = refl
 flag_number (pos (suc zero)) e = refl
-flag_number (pos (suc (suc n))) e = absurd (let p = and_parts (le_z (pos 0) (pos (suc (suc n)))) (le_z (pos (suc (suc n))) (pos 1)) e in let k = leb-true (suc (suc n)) 1 p.1 in omega arith)
-flag_number (negsuc n) e = absurd (let p = and_parts false (le_z (negsuc n) (pos 1)) e in let y : ◌≡◌ {A = ℕ} 0 1 = cc in omega arith)
+flag_number (pos (suc (suc n))) e = grind arith
+flag_number (negsuc n) e = cc
 
 kind_number_lem : (z : ℤ) → (le_z (pos 1) z && le_z z (pos 2)) ≡ true → pos (kind_number (unwrap_or (kind_numbered (nat_abs z)) Every)) ≡ z
-kind_number_lem (pos zero) e = absurd (let y : ◌≡◌ {A = ℕ} 0 1 = cc in omega arith)
+kind_number_lem (pos zero) e = cc
 kind_number_lem (pos (suc zero)) e = refl
 kind_number_lem (pos (suc (suc zero))) e = refl
-kind_number_lem (pos (suc (suc (suc n)))) e = absurd (let p = and_parts (le_z (pos 1) (pos (suc (suc (suc n))))) (le_z (pos (suc (suc (suc n)))) (pos 2)) e in let k = leb-true (suc (suc (suc n))) 2 p.1 in omega arith)
-kind_number_lem (negsuc n) e = absurd (let p = and_parts false (le_z (negsuc n) (pos 2)) e in let y : ◌≡◌ {A = ℕ} 0 1 = cc in omega arith)
+kind_number_lem (pos (suc (suc (suc n)))) e = grind arith
+kind_number_lem (negsuc n) e = cc
 
 op_number_lem : (z : ℤ) → (le_z (pos 1) z && le_z z (pos 18)) ≡ true → pos (op_number (unwrap_or (op_numbered (nat_abs z)) LoadConstant)) ≡ z
-op_number_lem (pos zero) e = absurd (let y : ◌≡◌ {A = ℕ} 0 1 = cc in omega arith)
+op_number_lem (pos zero) e = cc
 op_number_lem (pos (suc n)) e =
     let p = and_parts (le_z (pos 1) (pos (suc n))) (le_z (pos (suc n)) (pos 18)) e in
     let k = leb-true (suc n) 18 p.1 in
     let s = slice_get-get_or ops n LoadConstant (omega arith) in
     ap (λ o. pos (op_number (unwrap_or o LoadConstant))) s ∙ ap pos (op_numbered_lem (suc n) (get_or ops n LoadConstant) s)
-op_number_lem (negsuc n) e = absurd (let p = and_parts false (le_z (negsuc n) (pos 18)) e in let y : ◌≡◌ {A = ℕ} 0 1 = cc in omega arith)
+op_number_lem (negsuc n) e = cc
 
 -- a number for each field
 uncons : (f : Field) (fs : List Field) (zs : List ℤ) → all_allowed (f ∷ fs) zs ≡ true → (z : ℤ) × (us : List ℤ) × (zs ≡ z ∷ us) × (allowed f z ≡ true) × (all_allowed fs us ≡ true)
-uncons f fs [] a = absurd (let y : ◌≡◌ {A = ℕ} 0 1 = cc in omega arith)
+uncons f fs [] a = cc
 uncons f fs (z ∷ us) a = let p = and_parts (allowed f z) (all_allowed fs us) a in (z, us, refl, p.0, p.1)
 
 unnil : (zs : List ℤ) → all_allowed [] zs ≡ true → zs ≡ []
 unnil [] a = refl
-unnil (z ∷ zs) a = absurd (let y : ◌≡◌ {A = ℕ} 0 1 = cc in omega arith)
+unnil (z ∷ zs) a = cc
 
 pub letter_back : (l : Letter) (zs : List ℤ) → letter (line_of l zs) ≡ l
 letter_back L zs = refl
@@ -116,29 +113,30 @@ numbers_back L zs a =
     let q = uncons Gives (Watched ∷ []) p.1 p.4 in
     let r = uncons Watched [] q.1 q.4 in
     let n = unnil r.1 r.4 in
-    let e : zs ≡ p.0 ∷ (q.0 ∷ (r.0 ∷ [])) = p.2 ∙ ap (λ y. p.0 ∷ y) (q.2 ∙ ap (λ y. q.0 ∷ y) (r.2 ∙ ap (λ y. r.0 ∷ y) n)) in
+    let e : zs ≡ p.0 ∷ (q.0 ∷ (r.0 ∷ [])) = cc in
     let x = natural_back 0 6 p.0 p.3 in
     let y = flag_number q.0 q.3 in
     let z = flag_number r.0 r.3 in
-    ap (λ us. numbers (line_of L us)) e ∙ ap (λ u. u ∷ (pos (flag (eqb (nat_abs q.0) 1)) ∷ (pos (flag (eqb (nat_abs r.0) 1)) ∷ []))) x ∙ ap (λ u. p.0 ∷ (u ∷ (pos (flag (eqb (nat_abs r.0) 1)) ∷ []))) y ∙ ap (λ u. p.0 ∷ (q.0 ∷ (u ∷ []))) z ∙ sym e
+    ap (λ us. numbers (line_of L us)) e ∙ (cc)
 numbers_back M zs a =
     let p = uncons Arguments (Gives ∷ (Locals ∷ (StackLimit ∷ []))) zs a in
     let q = uncons Gives (Locals ∷ (StackLimit ∷ [])) p.1 p.4 in
     let r = uncons Locals (StackLimit ∷ []) q.1 q.4 in
     let s = uncons StackLimit [] r.1 r.4 in
     let n = unnil s.1 s.4 in
-    let e : zs ≡ p.0 ∷ (q.0 ∷ (r.0 ∷ (s.0 ∷ []))) = p.2 ∙ ap (λ y. p.0 ∷ y) (q.2 ∙ ap (λ y. q.0 ∷ y) (r.2 ∙ ap (λ y. r.0 ∷ y) (s.2 ∙ ap (λ y. s.0 ∷ y) n))) in
+    let e : zs ≡ p.0 ∷ (q.0 ∷ (r.0 ∷ (s.0 ∷ []))) = cc in
     let x = natural_back 0 6 p.0 p.3 in
     let y = flag_number q.0 q.3 in
     let z = natural_back 0 250 r.0 r.3 in
     let w = natural_back 0 64 s.0 s.3 in
-    ap (λ us. numbers (line_of M us)) e ∙ ap (λ u. u ∷ (pos (flag (eqb (nat_abs q.0) 1)) ∷ (pos (nat_abs r.0) ∷ (pos (nat_abs s.0) ∷ [])))) x ∙ ap (λ u. p.0 ∷ (u ∷ (pos (nat_abs r.0) ∷ (pos (nat_abs s.0) ∷ [])))) y ∙ ap (λ u. p.0 ∷ (q.0 ∷ (u ∷ (pos (nat_abs s.0) ∷ [])))) z ∙ ap (λ u. p.0 ∷ (q.0 ∷ (r.0 ∷ (u ∷ [])))) w ∙ sym e
+    ap (λ us. numbers (line_of M us)) e ∙ (cc)
 numbers_back I zs a =
     let p = uncons AsOp (Operand ∷ []) zs a in
     let q = uncons Operand [] p.1 p.4 in
     let n = unnil q.1 q.4 in
-    let e : zs ≡ p.0 ∷ (q.0 ∷ []) = p.2 ∙ ap (λ y. p.0 ∷ y) (q.2 ∙ ap (λ y. q.0 ∷ y) n) in
-    ap (λ us. numbers (line_of I us)) e ∙ ap (λ u. u ∷ (q.0 ∷ [])) (op_number_lem p.0 p.3) ∙ sym e
+    let e : zs ≡ p.0 ∷ (q.0 ∷ []) = cc in
+    let x = op_number_lem p.0 p.3 in
+    ap (λ us. numbers (line_of I us)) e ∙ (cc)
 numbers_back X zs a =
     let p = uncons TryBegin (TryEnd ∷ (AsKind ∷ (CatchBegin ∷ (CatchEnd ∷ [])))) zs a in
     let q = uncons TryEnd (AsKind ∷ (CatchBegin ∷ (CatchEnd ∷ []))) p.1 p.4 in
@@ -146,14 +144,13 @@ numbers_back X zs a =
     let s = uncons CatchBegin (CatchEnd ∷ []) r.1 r.4 in
     let t = uncons CatchEnd [] s.1 s.4 in
     let n = unnil t.1 t.4 in
-    let e : zs ≡ p.0 ∷ (q.0 ∷ (r.0 ∷ (s.0 ∷ (t.0 ∷ [])))) = p.2 ∙ ap (λ y. p.0 ∷ y) (q.2 ∙ ap (λ y. q.0 ∷ y) (r.2 ∙ ap (λ y. r.0 ∷ y) (s.2 ∙ ap (λ y. s.0 ∷ y) (t.2 ∙ ap (λ y. t.0 ∷ y) n)))) in
+    let e : zs ≡ p.0 ∷ (q.0 ∷ (r.0 ∷ (s.0 ∷ (t.0 ∷ [])))) = cc in
     let x = natural_back 0 2048 p.0 p.3 in
     let y = natural_back 0 2048 q.0 q.3 in
     let z = kind_number_lem r.0 r.3 in
     let v = natural_back 0 2048 s.0 s.3 in
     let w = natural_back 0 2048 t.0 t.3 in
-    let k = pos (kind_number (unwrap_or (kind_numbered (nat_abs r.0)) Every)) in
-    ap (λ us. numbers (line_of X us)) e ∙ ap (λ u. u ∷ (pos (nat_abs q.0) ∷ (k ∷ (pos (nat_abs s.0) ∷ (pos (nat_abs t.0) ∷ []))))) x ∙ ap (λ u. p.0 ∷ (u ∷ (k ∷ (pos (nat_abs s.0) ∷ (pos (nat_abs t.0) ∷ []))))) y ∙ ap (λ u. p.0 ∷ (q.0 ∷ (u ∷ (pos (nat_abs s.0) ∷ (pos (nat_abs t.0) ∷ []))))) z ∙ ap (λ u. p.0 ∷ (q.0 ∷ (r.0 ∷ (u ∷ (pos (nat_abs t.0) ∷ []))))) v ∙ ap (λ u. p.0 ∷ (q.0 ∷ (r.0 ∷ (s.0 ∷ (u ∷ []))))) w ∙ sym e
+    ap (λ us. numbers (line_of X us)) e ∙ (cc)
 
 -- a letter and its byte
 byte_letter : (l : Letter) → letter_of (letter_byte l) ≡ Some l
@@ -162,22 +159,12 @@ byte_letter M = refl
 byte_letter I = refl
 byte_letter X = refl
 
-choice : (b n : ℕ) (x l : Letter) (o : Option Letter) → (n ≡ letter_byte x) → cond (eqb b n) (Some x) o ≡ Some l → (o ≡ Some l → b ≡ letter_byte l) → b ≡ letter_byte l
-choice b n x l o is e other =
-    ⊎_elim
-    (λ t. let s = sym (cond-true (eqb b n) (Some x) o t) ∙ e in let same : x ≡ l = cc in eqb-true b n t ∙ is ∙ ap letter_byte same)
-    (λ f. other (sym (cond-false (eqb b n) (Some x) o f) ∙ e))
-    (cases_Bool (eqb b n))
-
 letter_byte_lem : (b : ℕ) (l : Letter) → letter_of b ≡ Some l → b ≡ letter_byte l
-letter_byte_lem b l e = choice b 76 L l _ refl e (λ f. choice b 77 M l _ refl f (λ g. choice b 73 I l _ refl g (λ h. choice b 88 X l _ refl h (λ n. absurd (let y : ◌≡◌ {A = ℕ} 0 1 = cc in omega arith)))))
+letter_byte_lem b l e = grind arith
 
 -- a text with a line feed behind it
 feed_last : (t : List ℕ) → last_byte (t ++ 10 ∷ []) ≡ 10
-feed_last t =
-    let l = length_push t 10 in
-    let k : length (t ++ 10 ∷ []) - 1 ≡ length t = omega arith in
-    ap (λ n. get_or (t ++ 10 ∷ []) n 0) k ∙ get_or_push t 10 0 (length t) refl
+feed_last t = search (rules, length_push, get_or_push)
 
 feed_front : (t : List ℕ) → front (t ++ 10 ∷ []) ≡ t
 feed_front t =
@@ -187,41 +174,18 @@ feed_front t =
 
 front_feed : (t : List ℕ) → last_byte t ≡ 10 → t ≡ front t ++ 10 ∷ []
 front_feed [] e = absurd (omega arith)
-front_feed (b ∷ t) e =
-    let i : length (b ∷ t) - 1 < length (b ∷ t) = omega arith in
-    let m = take_more (b ∷ t) (length (b ∷ t) - 1) 0 i in
-    let a = take_all (length (b ∷ t) - 1 + 1) (b ∷ t) (omega arith) in
-    sym a ∙ m ∙ ap (λ y. front (b ∷ t) ++ y ∷ []) e
+front_feed (b ∷ t) e = let m = take_more (b ∷ t) (length t) 0 (omega arith) in let a = take_all (length t + 1) (b ∷ t) (omega arith) in grind arith
 
 -- a line taken apart
 parted_text : (l : Letter) (t : List ℕ) → length t ≡ widths (fields_of l) → parted (letter_byte l ∷ (t ++ 10 ∷ [])) ≡ Ok (l, t)
-parted_text l t h =
-    let u = t ++ 10 ∷ [] in
-    let f = feed_front t in
-    ap (λ o. behind_letter o u) (byte_letter l)
-    ∙ cond-true (eqb (last_byte u) 10) _ _ (eq-eqb _ 10 (feed_last t))
-    ∙ cond-true (eqb (length (front u)) (widths (fields_of l))) (Ok (l, front u)) _ (eq-eqb _ _ (ap length f ∙ h))
-    ∙ ap (λ y. Ok (l, y)) f
+parted_text l t h = let f = feed_front t in let g = feed_last t in let b = byte_letter l in grind arith
 
 behind_ok : (o : Option Letter) (u : List ℕ) (p : Letter × List ℕ) → behind_letter o u ≡ Ok p → (o ≡ Some p.0) × (u ≡ p.1 ++ 10 ∷ []) × (length p.1 ≡ widths (fields_of p.0))
-behind_ok None u p e = absurd (let y : ◌≡◌ {A = ℕ} 0 1 = cc in omega arith)
-behind_ok (Some l) u p e =
-    ⊎_elim
-    (λ b. let e' = sym (cond-true (eqb (last_byte u) 10) _ _ b) ∙ e in
-    ⊎_elim
-    (λ c.
-    let s = sym (cond-true (eqb (length (front u)) (widths (fields_of l))) (Ok (l, front u)) _ c) ∙ e' in
-    let same : (l, front u) ≡ p = cc in
-    let x = ap (λ q. q.0) same in
-    let y = ap (λ q. q.1) same in
-    (ap Some x, front_feed u (eqb-true _ 10 b) ∙ ap (λ t. t ++ 10 ∷ []) y, ap length (sym y) ∙ eqb-true _ _ c ∙ ap (λ k. widths (fields_of k)) x))
-    (λ c. absurd (let s = sym (cond-false (eqb (length (front u)) (widths (fields_of l))) (Ok (l, front u)) _ c) ∙ e' in let y : ◌≡◌ {A = ℕ} 0 1 = cc in omega arith))
-    (cases_Bool (eqb (length (front u)) (widths (fields_of l)))))
-    (λ b. absurd (let s = sym (cond-false (eqb (last_byte u) 10) _ _ b) ∙ e in let y : ◌≡◌ {A = ℕ} 0 1 = cc in omega arith))
-    (cases_Bool (eqb (last_byte u) 10))
+behind_ok None u p e = cc
+behind_ok (Some l) u p e = grind (arith, front_feed)
 
 parted_ok : (t : List ℕ) (p : Letter × List ℕ) → parted t ≡ Ok p → (t ≡ letter_byte p.0 ∷ (p.1 ++ 10 ∷ [])) × (length p.1 ≡ widths (fields_of p.0))
-parted_ok [] p e = absurd (let y : ◌≡◌ {A = ℕ} 0 1 = cc in omega arith)
+parted_ok [] p e = cc
 parted_ok (b ∷ u) p e =
     let k = behind_ok (letter_of b) u p e in
     let x = letter_byte_lem b p.0 k.0 in

@@ -1,5 +1,5 @@
 -- A number written from its last digit on, with a sign ahead of it. Assumes nothing.
-use Rattle.std.proofs.Common.{◌≡◌, ℕ, zero, suc, ◌+◌, ◌-◌, ◌/◌, ◌%◌, ◌^◌, ◌<◌, ◌≤◌, Bool, true, false, List, [], ◌∷◌, ◌++◌, length, set, replicate, ℤ, pos, negsuc, nat_abs, decimal, sym, refl, ap, ◌∙◌, arith, w32, SFits, to_z, of_z, le-ltb}
+use Rattle.std.proofs.Common.{◌≡◌, ℕ, zero, suc, ◌+◌, ◌-◌, ◌/◌, ◌%◌, ◌^◌, ◌<◌, ◌≤◌, Bool, true, false, List, [], ◌∷◌, ◌++◌, length, set, replicate, ℤ, pos, negsuc, nat_abs, decimal, sym, refl, ap, ◌∙◌, arith, w32, SFits, to_z, of_z}
 use lib.Signed.{lt_z}
 use Rattle.std.proofs.lemmas.Int.{to_z-of_z}
 use Rattle.std.specs.Fmt.{signed_decimal}
@@ -24,7 +24,7 @@ sign_step s w n h k =
     ap (λ x. column w (s ++ x)) (decimal_step n h k) ∙ ap (column w) (sym (append_assoc s (decimal (n / 10)) ((48 + n % 10) ∷ []))) ∙ column_push w (s ++ decimal (n / 10)) (48 + n % 10)
 
 pub long_one : (s : List ℕ) (n : ℕ) → n < 2 ^ 64 → length s + 1 ≤ length (s ++ decimal n)
-long_one s n h = let d = decimal_nonempty n h in let a = length-append s (decimal n) in omega arith
+long_one s n h = omega (arith, decimal_nonempty n h, length-append s (decimal n))
 
 pub long_step : (s : List ℕ) (n : ℕ) → 10 ≤ n → n < 2 ^ 64 → length (s ++ decimal n) ≡ length (s ++ decimal (n / 10)) + 1
 long_step s n h k =
@@ -38,27 +38,20 @@ set_blank zero v = refl
 set_blank (suc k) v = ap (λ x. 32 ∷ x) (set_blank k v)
 
 pub sign_written : (w : ℕ) (xs : List ℕ) (b : Bool) → b ≡ true → 0 < w → xs ≡ replicate w 32 → length xs ≡ w → set xs (length xs - 1) 45 ≡ column w (minus_text b)
-sign_written (suc w) xs true t h e l =
-    let i : length xs - 1 ≡ w = omega arith in
-    let j : suc w - 1 ≡ w = omega arith in
-    ap (λ x. set x (length xs - 1) 45) e ∙ ap (λ n. set (replicate (suc w) 32) n 45) i ∙ set_blank w 45 ∙ ap (λ n. replicate n 32 ++ 45 ∷ []) (sym j)
+sign_written (suc w) xs true t h e l = let j : suc w - 1 ≡ w = omega arith in rw (l, e, j) (set_blank w 45)
 sign_written zero xs b t h e l = absurd (omega arith)
-sign_written (suc w) xs false t h e l = absurd (let z : ◌≡◌ {A = ℕ} 0 1 = cc in omega arith)
+sign_written (suc w) xs false t h e l = cc
 
 pub minus_short : (b : Bool) → length (minus_text b) ≤ 1
 minus_short true = omega arith
 minus_short false = omega arith
 
 pub sign_is : (z : ℤ) → minus_text (lt_z z (pos 0)) ++ decimal (nat_abs z) ≡ signed_decimal z
-sign_is (pos n) = ap (λ b. minus_text b ++ decimal n) (le-ltb n 0 (omega arith))
+sign_is (pos n) = grind arith
 sign_is (negsuc n) = refl
 
 pub operand_fits : (b : Bool) (n : ℕ) → n ≤ 2 ^ 31 → length (minus_text b ++ decimal n) ≤ 12
-operand_fits b n h =
-    let a = length-append (minus_text b) (decimal n) in
-    let m = minus_short b in
-    let d = length-decimal-le 10 n (omega arith) (omega arith) (omega arith) in
-    omega arith
+operand_fits b n h = omega (arith, length-append (minus_text b) (decimal n), minus_short b, length-decimal-le 10 n (omega arith) (omega arith) (omega arith))
 
 -- the operand as it is written: its sign and its size
 pub operand_text : (z : ℤ) (n : ℕ) → SFits w32 z → n ≡ nat_abs (to_z w32 (of_z w32 z)) → minus_text (lt_z (to_z w32 (of_z w32 z)) (pos 0)) ++ decimal n ≡ signed_decimal z

@@ -1,15 +1,14 @@
 -- A stored sheet's methods, and those with more behind them. Assumes nothing.
-use Rattle.std.proofs.Common.{◌≡◌, ℕ, zero, suc, ◌+◌, ◌-◌, ◌<◌, ◌≤◌, eqb, List, [], ◌∷◌, ◌++◌, length, get_or, drop, sym, refl, ap, ◌∙◌, ⊎_elim, arith}
+use Rattle.std.proofs.Common.{◌≡◌, ℕ, zero, suc, ◌+◌, ◌-◌, ◌<◌, ◌≤◌, eqb, List, [], ◌∷◌, ◌++◌, length, get_or, drop, sym, refl, ap, ◌∙◌, arith}
 use native.Mathlib.Numerals.{unary_clauses}
-use Rattle.std.proofs.lemmas.List.{append-nil, length-drop, take_rest}
+use Rattle.std.proofs.lemmas.List.{append-nil, take_rest}
 use Rattle.std.proofs.lemmas.List.Edits.{between_none}
-use Rattle.std.proofs.lemmas.Bool.{eq-eqb, ne_eqb, cases_eq}
+use Rattle.std.proofs.Math.Dec.{eqb-zero-suc, eqb-suc-suc}
 use Rattle.std.specs.List.{between, slice_get}
 use Rattle.std.specs.Option.{option_map}
 use Rattle.sheet.specs.Reading.{none}
 use Rattle.sheet.specs.View.{Method, on_last, pushed, bare, instructions_in, handlers_in, with_code, with_handlers, nobody, no_shape, last_method}
 use Rattle.sheet.specs.declared.records.Shape.{Shape}
-use Rattle.sheet_laws.proofs.Adds.{none_there, some_there}
 use Rattle.sheet_store.specs.Adding.{whole}
 use Rattle.sheet_store.specs.Stored.{part, cut}
 use Rattle.sheet_store.specs.Tiles.{start, Ordered, IsTiled}
@@ -29,9 +28,10 @@ part_of p hs xs = between (start p hs (length xs)) (start p (drop 1 hs) (length 
 
 -- nothing stands behind the first k exactly when there are k
 none_drop : {X : Type 0} (k : ℕ) (xs : List X) → k ≤ length xs → none (drop k xs) ≡ eqb k (length xs)
-none_drop k xs h =
-    let d = length-drop k xs in
-    ⊎_elim (λ e. none_there (drop k xs) (omega arith) ∙ sym (eq-eqb k (length xs) e)) (λ ne. some_there (drop k xs) (let l : k < length xs = omega arith in omega arith) ∙ sym (ne_eqb k (length xs) ne)) (cases_eq k (length xs))
+none_drop zero [] h = refl
+none_drop zero (x ∷ xs) h = sym (eqb-zero-suc (length xs))
+none_drop (suc k) [] h = absurd (omega arith)
+none_drop (suc k) (x ∷ xs) h = none_drop k xs (omega arith) ∙ sym (eqb-suc-suc k (length xs))
 
 module _ {I H : Type 0} where
   -- equal methods ahead of equal lists

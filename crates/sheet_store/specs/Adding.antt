@@ -1,5 +1,5 @@
--- When nothing is added to a sheet. Assumes nothing.
-use Rattle.std.specs.Prelude.{◌≡◌, ℕ, ◌+◌, ◌<◌, ◌≤◌, ◌⊎◌, List, length}
+-- When nothing is added to a sheet, and how that is said. Assumes nothing.
+use Rattle.std.specs.Prelude.{◌≡◌, ℕ, ◌+◌, ◌<◌, ◌≤◌, ◌⊎◌, List, length, codes}
 use Rattle.sheet.specs.View.{Method, instructions_in, handlers_in}
 use Rattle.sheet.specs.declared.records.Shape.{Shape}
 use Rattle.sheet_store.specs.declared.stored.AddFault.{AddFault}
@@ -17,3 +17,8 @@ whole s is xs = record { shape = s; code = is; handlers = xs }
 -- there is no place for one method more with so many instructions and handlers
 abbrev pub NoRoom : {I H : Type 0} → List (Method I H) → ℕ → ℕ → Type 0
 NoRoom ms code handlers = (16 ≤ length ms) ⊎ ((2048 < instructions_in ms + code) ⊎ (256 < handlers_in ms + handlers))
+
+-- a fault in words
+abbrev pub fault_words : AddFault → List ℕ
+fault_words NoMethod = codes "there is no method to add it to"
+fault_words Full = codes "a sheet may not have more of it"

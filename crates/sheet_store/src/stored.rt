@@ -1,4 +1,4 @@
-// What can be done with a stored sheet: made, emptied, added to at its end, looked at.
+// A sheet in storage, and what can be done with it: made, emptied, added to at its end, looked at.
 ghost use Rattle.std.specs.Prelude.{◌≡◌, ℕ, ◌+◌, ◌<◌, ◌≤◌, [], ◌∷◌, ◌++◌, length, IfOk, vec_len, vec_capacity, MatchResult, drop};
 ghost use Rattle.std.specs.List.{slice_get};
 ghost use Rattle.std.specs.Option.{option_map};
@@ -10,6 +10,8 @@ ghost use Rattle.sheet_store.specs.Tiles.{begin, start, Ordered};
 
 use sheet::records::{Shape, Signature};
 use std::alloc::{AllocError, Global};
+use std::error::Error;
+use std::fmt;
 use std::marker::Model;
 
 // How many of each a sheet may have.
@@ -21,7 +23,8 @@ const INSTRUCTIONS: usize = 2048;
 
 const HANDLERS: usize = 256;
 
-// An own method in storage: where its code and its handlers begin. They end where the next method's begin.
+// An own method in storage: where its code and its handlers begin.
+// They end where the next method's begin.
 #[derive(Clone, Copy)]
 struct Header {
     shape: Shape,
@@ -29,7 +32,7 @@ struct Header {
     handlers_begin: usize,
 }
 
-// What a method has a part of: the code of all methods, or their handlers.
+// A part of a method: its code, or its handlers.
 #[derive(Clone, Copy)]
 enum Part {
     Code,
@@ -37,7 +40,7 @@ enum Part {
 }
 
 impl Header {
-    // Where the method's part begins.
+    // Where this part of the method begins.
     fn begin(&self, part: Part) -> usize
         ensures { result ≡ begin part self.now }
     {
@@ -57,8 +60,25 @@ pub enum AddFault {
     Full,
 }
 
-// A sheet in memory that is reserved for the largest one, so that nothing after the making can want memory.
-// Its instructions are of one sort `I` and its handlers of one sort `H`. Contracts see it as the sheet that it holds.
+impl fmt::Display for AddFault {
+    ghost use Rattle.std.specs.Prelude.{Some};
+    ghost use Rattle.sheet_store.specs.Adding.{fault_words};
+
+    ghost output = { λ fault. Some (fault_words fault) };
+
+    fn fmt<W: fmt::Write>(&self, f: &mut fmt::Formatter<W>) -> fmt::Result {
+        f.write_str(match self {
+            AddFault::NoMethod => "there is no method to add it to",
+            AddFault::Full => "a sheet may not have more of it",
+        })
+    }
+}
+
+impl Error for AddFault {}
+
+// A sheet in memory that is reserved for the largest one, so that nothing after the making can want
+// memory. Its instructions are of one sort `I` and its handlers of one sort `H`.
+// Contracts see it as the sheet that it holds.
 #[derive(Drop)]
 pub struct StoredSheet<I, H> {
     library: Vec<Signature>,
@@ -137,14 +157,20 @@ impl<I: Copy, H: Copy> StoredSheet<I, H> {
 
     // One library method more; a sheet that has no place for it is left as it is.
     pub fn add_signature(&mut self, signature: Signature) -> Result<(), AddFault>
-        ensures { MatchResult result (λ _. (length self.old.library < 32) × (self.new ≡ with_library (pushed signature self.old.library) self.old)) (λ e. (e ≡ AddFault.Full) × (length self.old.library ≡ 32) × (self.new ≡ self.old)) }
+        ensures { MatchResult result
+            (λ _. (length self.old.library < 32)
+            × (self.new ≡ with_library (pushed signature self.old.library) self.old))
+            (λ e. (e ≡ AddFault.Full) × (length self.old.library ≡ 32) × (self.new ≡ self.old)) }
     {
         push_within(&mut self.library, LIBRARY_METHODS, signature)
     }
 
     // One own method more, without instructions and handlers; a sheet that has no place for it is left as it is.
     pub fn add_method(&mut self, shape: Shape) -> Result<(), AddFault>
-        ensures { MatchResult result (λ _. (length self.old.methods < 16) × (self.new ≡ with_methods (pushed (bare shape) self.old.methods) self.old)) (λ e. (e ≡ AddFault.Full) × (length self.old.methods ≡ 16) × (self.new ≡ self.old)) }
+        ensures { MatchResult result
+            (λ _. (length self.old.methods < 16)
+            × (self.new ≡ with_methods (pushed (bare shape) self.old.methods) self.old))
+            (λ e. (e ≡ AddFault.Full) × (length self.old.methods ≡ 16) × (self.new ≡ self.old)) }
     {
         let header = Header {
             shape,
@@ -156,7 +182,12 @@ impl<I: Copy, H: Copy> StoredSheet<I, H> {
 
     // One instruction more in the last method; a sheet without a method, or without a place for it, is left as it is.
     pub fn add_instruction(&mut self, instruction: I) -> Result<(), AddFault>
-        ensures { MatchResult result (λ _. (0 < length self.old.methods) × (instructions_in self.old.methods < 2048) × (self.new ≡ with_methods (on_last (with_code (pushed instruction)) self.old.methods) self.old)) (λ e. AddRefused e (length self.old.methods) (instructions_in self.old.methods) 2048 × (self.new ≡ self.old)) }
+        ensures { MatchResult result
+            (λ _. (0 < length self.old.methods) × (instructions_in self.old.methods < 2048)
+            × (self.new
+            ≡ with_methods (on_last (with_code (pushed instruction)) self.old.methods) self.old))
+            (λ e. AddRefused e (length self.old.methods) (instructions_in self.old.methods) 2048
+            × (self.new ≡ self.old)) }
     {
         if self.methods.is_empty() {
             return Err(AddFault::NoMethod);
@@ -166,7 +197,12 @@ impl<I: Copy, H: Copy> StoredSheet<I, H> {
 
     // One handler more in the last method; a sheet without a method, or without a place for it, is left as it is.
     pub fn add_handler(&mut self, handler: H) -> Result<(), AddFault>
-        ensures { MatchResult result (λ _. (0 < length self.old.methods) × (handlers_in self.old.methods < 256) × (self.new ≡ with_methods (on_last (with_handlers (pushed handler)) self.old.methods) self.old)) (λ e. AddRefused e (length self.old.methods) (handlers_in self.old.methods) 256 × (self.new ≡ self.old)) }
+        ensures { MatchResult result
+            (λ _. (0 < length self.old.methods) × (handlers_in self.old.methods < 256)
+            × (self.new
+            ≡ with_methods (on_last (with_handlers (pushed handler)) self.old.methods) self.old))
+            (λ e. AddRefused e (length self.old.methods) (handlers_in self.old.methods) 256
+            × (self.new ≡ self.old)) }
     {
         if self.methods.is_empty() {
             return Err(AddFault::NoMethod);
@@ -176,7 +212,12 @@ impl<I: Copy, H: Copy> StoredSheet<I, H> {
 
     // One own method more, with its instructions and handlers; a sheet that has no place for them is left as it is.
     pub fn add_whole(&mut self, shape: Shape, code: &[I], handlers: &[H]) -> Result<(), AddFault>
-        ensures { MatchResult result (λ _. self.new ≡ with_methods (pushed (whole shape code.now handlers.now) self.old.methods) self.old) (λ e. (e ≡ AddFault.Full) × NoRoom self.old.methods (length code.now) (length handlers.now) × (self.new ≡ self.old)) }
+        ensures { MatchResult result
+            (λ _. self.new
+            ≡ with_methods (pushed (whole shape code.now handlers.now) self.old.methods) self.old)
+            (λ e. (e ≡ AddFault.Full)
+            × NoRoom self.old.methods (length code.now) (length handlers.now)
+            × (self.new ≡ self.old)) }
     {
         let code_begin = self.code.len();
         let handlers_begin = self.handlers.len();
@@ -196,7 +237,9 @@ impl<I: Copy, H: Copy> StoredSheet<I, H> {
 
     // Empty but for this library; a library that is too large leaves the sheet as it is.
     pub fn restart(&mut self, library: &[Signature]) -> Result<(), AddFault>
-        ensures { MatchResult result (λ _. self.new ≡ record { library = library.entry.now; methods = [] }) (λ e. (e ≡ AddFault.Full) × (32 < length library.entry.now) × (self.new ≡ self.old)) }
+        ensures { MatchResult result
+            (λ _. self.new ≡ record { library = library.entry.now; methods = [] })
+            (λ e. (e ≡ AddFault.Full) × (32 < length library.entry.now) × (self.new ≡ self.old)) }
     {
         if library.len() > LIBRARY_METHODS {
             return Err(AddFault::Full);
@@ -220,7 +263,7 @@ impl<I: Copy, H: Copy> StoredSheet<I, H> {
     pub fn shape(&self, method: usize) -> Option<Shape>
         ensures { result ≡ option_map (λ m. m.shape) (slice_get self.now.methods method) }
     {
-        Some(self.methods.get(method)?.shape)
+        self.methods.get(method).map(|header| header.shape)
     }
 
     // The instructions of the own method of this number; none where there is no such method.
@@ -244,7 +287,9 @@ impl<I: Copy, H: Copy> StoredSheet<I, H> {
 fn push_within<T: Copy>(list: &mut Vec<T>, most: usize, x: T) -> Result<(), AddFault>
     requires { HasRoom most list.old }
     ensures room { HasRoom most list.new }
-    ensures added { MatchResult result (λ _. (vec_len list.old < most) × (list.new.items ≡ pushed x list.old.items)) (λ e. (e ≡ AddFault.Full) × (vec_len list.old ≡ most) × (list.new ≡ list.old)) }
+    ensures added { MatchResult result
+        (λ _. (vec_len list.old < most) × (list.new.items ≡ pushed x list.old.items))
+        (λ e. (e ≡ AddFault.Full) × (vec_len list.old ≡ most) × (list.new ≡ list.old)) }
 {
     if list.len() >= most {
         return Err(AddFault::Full);
@@ -253,7 +298,7 @@ fn push_within<T: Copy>(list: &mut Vec<T>, most: usize, x: T) -> Result<(), AddF
     Ok(())
 }
 
-// From where to where the part of a method stands in a list of n: up to where the next method's begins.
+// From where to where a method's part stands in a list of n: up to where the next method's begins.
 fn bounds(headers: &[Header], method: usize, part: Part, n: usize) -> (usize, usize)
     requires { Ordered part headers.now n }
     ensures begins { result.0 ≡ start part (drop method headers.now) n }
