@@ -1,9 +1,9 @@
 // Numbers in their columns: right-justified decimal text, with a minus ahead of a negative one.
-ghost use Rattle.std.specs.Prelude.{◌≡◌, ℕ, ◌+◌, ◌-◌, ◌^◌, ◌<◌, ◌≤◌, true, ◌++◌, length, replicate, ℤ, decimal, MatchOption, ◌≢◌, slice_index};
+ghost use Rattle.std.specs.Prelude.{◌≡◌, ℕ, ◌+◌, ◌-◌, ◌^◌, ◌<◌, ◌≤◌, ◌++◌, length, replicate, ℤ, decimal, MatchOption, ◌≢◌, slice_index};
 ghost use Rattle.std.specs.Int.Signed.{mag};
 ghost use Rattle.std.specs.Fmt.{signed_decimal};
 ghost use Rattle.std.specs.Str.Parse.{AllDigits, digits_value};
-ghost use Rattle.sheet.specs.Columns.{column, minus_text, held, judged};
+ghost use Rattle.sheet.specs.Columns.{column, held, judged};
 
 use sheet::faults::FieldFault;
 use sheet::fields::Field;
@@ -80,28 +80,12 @@ pub(crate) fn judge(field: Field, number: Option<i64>) -> Result<i32, FieldFault
     Ok(number as i32)
 }
 
-// Blanks, and a minus behind them where there is to be one.
-fn write_sign(out: &mut [u8], minus: bool)
-    requires { minus ≡ true → 0 < length out.old }
-    ensures { out.new ≡ column (length out.old) (minus_text minus) }
+// Writes a text right-justified.
+pub(crate) fn write_column(out: &mut [u8], text: &[u8])
+    requires { length text.now ≤ length out.old }
+    ensures { out.new ≡ column (length out.old) text.now }
 {
-    out.fill(b' ');
-    if minus {
-        let last = out.len() - 1;
-        out[last] = b'-';
-    }
-}
-
-// Writes a number right-justified, with a minus in front where there is to be one.
-pub(crate) fn write_digits(out: &mut [u8], minus: bool, n: u32)
-    requires { length (minus_text minus ++ decimal n) ≤ length out.old }
-    ensures { out.new ≡ column (length out.old) (minus_text minus ++ decimal n) }
-{
-    let last = out.len() - 1;
-    out[last] = b'0' + (n % 10) as u8;
-    if n < 10 {
-        write_sign(&mut out[0..last], minus);
-    } else {
-        write_digits(&mut out[0..last], minus, n / 10);
-    }
+    let (blanks, place) = out.split_at_mut(out.len() - text.len());
+    blanks.fill(b' ');
+    place.copy_from_slice(text);
 }

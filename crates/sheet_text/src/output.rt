@@ -1,13 +1,14 @@
 // A buffer that text is put into from its start on, one piece behind the other.
-ghost use Rattle.std.specs.Prelude.{◌≡◌, ℕ, ◌≤◌, List, [], ◌∷◌, ◌++◌, length, decimal};
+ghost use Rattle.std.specs.Prelude.{◌≡◌, ℕ, ◌<◌, ◌≤◌, List, [], ◌∷◌, ◌++◌, length};
 ghost use Rattle.std.specs.List.{flat_map};
 ghost use Rattle.std.specs.Fmt.{signed_decimal};
-ghost use Rattle.sheet.specs.Columns.{column, minus_text};
+ghost use Rattle.sheet.specs.Columns.{column};
 ghost use Rattle.sheet.specs.Fields.{letter_byte};
 ghost use Rattle.sheet.specs.Text.{count};
 ghost use Rattle.sheet_text.specs.Output.{written, left, Fits, Put};
 
-use crate::number::write_digits;
+use crate::number::write_column;
+use itoa::Buffer;
 use sheet::fields::Letter;
 
 // The buffer, and where its next byte goes.
@@ -45,14 +46,15 @@ impl<'a> Output<'a> {
         self.at += 1;
     }
 
-    // Puts a number into so many columns, with a minus in front where there is to be one.
-    fn number(&mut self, width: usize, minus: bool, n: u32)
-        requires fits { length (minus_text minus ++ decimal n) ≤ width }
+    // Puts a text into so many columns, right-justified.
+    fn column(&mut self, width: usize, text: &[u8])
+        requires some { 0 < width }
+        requires fits { length text.now ≤ width }
         requires room { width ≤ length (left self.old) }
-        ensures { Put (column width (minus_text minus ++ decimal n)) self.old self.new }
+        ensures { Put (column width text.now) self.old self.new }
     {
         let end = self.at + width;
-        write_digits(&mut self.bytes[self.at..end], minus, n);
+        write_column(&mut self.bytes[self.at..end], text);
         self.at = end;
     }
 
@@ -82,7 +84,7 @@ impl Piece for u16 {
     ghost text = { count };
 
     fn put(&self, out: &mut Output<'_>) {
-        out.number(6, false, u32::from(*self));
+        out.column(6, Buffer::new().format(*self).as_bytes());
     }
 }
 
@@ -91,6 +93,6 @@ impl Piece for i32 {
     ghost text = { λ z. column 12 (signed_decimal z) };
 
     fn put(&self, out: &mut Output<'_>) {
-        out.number(12, *self < 0, self.unsigned_abs());
+        out.column(12, Buffer::new().format(*self).as_bytes());
     }
 }
