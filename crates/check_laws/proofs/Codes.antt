@@ -1,5 +1,5 @@
 -- Decoding and encoding undo each other. Assumes nothing.
-use Rattle.std.proofs.Common.{◌≡◌, ℕ, suc, eqb, ltb, List, [], ◌∷◌, map, get_or, ℤ, pos, negsuc, Some, None, Ok, Err, Option, Result, sym, refl, ap, ◌∙◌, ⊎_elim, arith}
+use Rattle.std.proofs.Common.{◌≡◌, ℕ, suc, eqb, ltb, List, [], ◌∷◌, map, get_or, ℤ, pos, negsuc, Some, None, Ok, Err, Option, Result, sym, refl, ap, ◌∙◌}
 use Rattle.std.specs.Option.{option_map}
 use Rattle.std.proofs.lemmas.Bool.{eqb-true}
 use Rattle.std.proofs.lemmas.Option.{cond_some, option_and_then_some}

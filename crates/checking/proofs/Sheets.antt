@@ -1,6 +1,6 @@
 -- The check of a whole sheet, method by method. Assumes nothing.
 use Rattle.std.proofs.Common.{◌≡◌, ℕ, suc, ◌+◌, ◌<◌, ◌≤◌, true, List, [], ◌∷◌, ◌++◌, map, length, get_or, take, drop, Some, Ok, Err, Result, option_map, slice_get, is_err, false, MatchResult, IsOk, OnOk, inl, inr, sym, refl, ap, ◌∙◌, arith}
-use Rattle.std.proofs.lemmas.List.{append-nil, at_drop_more, get_or-map, length-map, length-take-le, take-append-drop, take_more, take_all}
+use Rattle.std.proofs.lemmas.List.{at_drop_more, get_or-map, length-map, length-take-le, take-append-drop, take_more}
 use Rattle.std.proofs.lemmas.Option.{slice_get-get_or}
 use Rattle.sheet.specs.Bounds.{in_range}
 use Rattle.sheet.specs.Maps.{and_then, raised}
