@@ -1,5 +1,5 @@
 -- Decoding and encoding undo each other. Assumes nothing.
-use Rattle.std.proofs.Common.{◌≡◌, ℕ, suc, eqb, ltb, List, [], ◌∷◌, map, get_or, ℤ, pos, negsuc, Some, None, Ok, Err, Option, Result, sym, refl, ap, ◌∙◌, ⊎_elim, arith}
+use Rattle.std.proofs.Common.{◌≡◌, ℕ, suc, eqb, ltb, List, [], ◌∷◌, map, get_or, ℤ, pos, negsuc, Some, None, Ok, Err, Option, Result, ok_or, sym, refl, ap, ◌∙◌}
 use Rattle.std.specs.Option.{option_map}
 use Rattle.std.proofs.lemmas.Bool.{eqb-true}
 use Rattle.std.proofs.lemmas.Option.{cond_some, option_and_then_some}
@@ -17,7 +17,7 @@ use Rattle.sheet.specs.declared.op.OperandUse.{OperandUse}
 use Rattle.sheet.specs.declared.op.OperandUse.TheVariants as UseOf
 use Rattle.sheet.specs.declared.records.ReadInstruction.{ReadInstruction}
 use Rattle.sheet.specs.declared.records.Signature.{Signature}
-use Rattle.check_rules.specs.Check.{decoded_then, decoded_from}
+use Rattle.check_rules.specs.Check.{decoded_from}
 use Rattle.check_rules.specs.Coding.{below, zero_only, watched_only, meaning, decoded, operand_number, encoded}
 use Rattle.check_rules.specs.Effects.{Place, no_signature}
 use Rattle.check_rules.specs.Places.{plain}
@@ -110,7 +110,7 @@ encoded_back p r i e =
     ∙ ap (λ z. record { op = r.op; operand = z }) (meaning_is p (op_row r.op).operand r.operand x m)))
 
 -- all instructions of a method
-then_is : (at : ℕ) (o : Option (Instruction PlainLocation)) (rest : Result (List (Instruction PlainLocation)) ℕ) (is : List (Instruction PlainLocation)) → decoded_then at o rest ≡ Ok is → (i : Instruction PlainLocation) × (js : List (Instruction PlainLocation)) × (o ≡ Some i) × (rest ≡ Ok js) × (i ∷ js ≡ is)
+then_is : (at : ℕ) (o : Option (Instruction PlainLocation)) (rest : Result (List (Instruction PlainLocation)) ℕ) (is : List (Instruction PlainLocation)) → and_then (ok_or o at) (λ i. and_then rest (λ is. Ok (i ∷ is))) ≡ Ok is → (i : Instruction PlainLocation) × (js : List (Instruction PlainLocation)) × (o ≡ Some i) × (rest ≡ Ok js) × (i ∷ js ≡ is)
 then_is at None rest is e = cc
 then_is at (Some i) (Ok js) is e = let same : i ∷ js ≡ is = cc in (i, js, refl, refl, same)
 then_is at (Some i) (Err f) is e = cc
@@ -130,4 +130,4 @@ all_decoded p at (r ∷ rs) [] e = cc
 all_decoded p at (r ∷ rs) (i ∷ is) e =
     let h : decoded p r ≡ Some i = cc in
     let t : map (decoded p) rs ≡ map Some is = cc in
-    ap (λ o. decoded_then at o (decoded_from p (suc at) rs)) h ∙ ap (λ x. and_then x (λ js. Ok (i ∷ js))) (all_decoded p (suc at) rs is t)
+    ap (λ o. and_then (ok_or o at) (λ j. and_then (decoded_from p (suc at) rs) (λ js. Ok (j ∷ js)))) h ∙ ap (λ x. and_then x (λ js. Ok (i ∷ js))) (all_decoded p (suc at) rs is t)

@@ -1,10 +1,11 @@
 -- Depths that type a method and come from below are found. Assumes nothing.
-use Rattle.std.proofs.Common.{◌≡◌, ℕ, ◌+◌, ◌-◌, ◌<◌, ◌≤◌, Bool, true, false, cond, ◌&&◌, ltb, ◌⊎◌, List, [], ◌∷◌, length, get_or, set, Some, None, Ok, Option, unwrap_or, sym, refl, ap, ◌∙◌, subst, inl, inr, arith}
+use Rattle.std.proofs.Common.{◌≡◌, ℕ, ◌+◌, ◌-◌, ◌<◌, ◌≤◌, Bool, true, false, cond, ◌&&◌, ltb, ◌⊎◌, List, [], ◌∷◌, length, get_or, set, Some, None, Ok, Option, ok_or, unwrap_or, sym, refl, ap, ◌∙◌, subst, inl, inr, arith}
 use Rattle.std.proofs.lemmas.List.{get_or-set_same, get_or-set_other, length-set}
 use Rattle.std.proofs.lemmas.Bool.{lt-ltb, le-ltb, eq-eqb, cases_eq, false≢true}
 use Rattle.std.proofs.lemmas.Option.{same_Some}
+use Rattle.sheet.specs.Maps.{and_then}
 use Rattle.check_rules.specs.declared.effect.Effect.{Effect}
-use Rattle.check_rules.specs.Depths.{Depths, agreed, give, give_if, give_to, visited, afterwards, swept}
+use Rattle.check_rules.specs.Depths.{Depths, agreed, give, give_if, give_to, visited, swept}
 use Rattle.check_rules.specs.Meaning.{FromBelow}
 
 module _ (D : ℕ → ℕ) (N K : ℕ) where
@@ -149,4 +150,4 @@ module _ (D : ℕ → ℕ) (N K : ℕ) where
   sweep_passes (r ∷ rs) at ds n g a w =
       let v = visit_passes r at ds (omega arith) g.0 a (here_ready r rs at ds (w at (omega arith) (omega arith))) in
       let t = sweep_passes rs (at + 1) v.es (omega arith) g.1 v.onto.fine (λ l lo hi. still_ready r rs at ds v l (w l (omega arith) hi)) in
-      (t.0, ap (λ o. afterwards o at (swept rs (at + 1) K)) v.is ∙ t.1)
+      (t.0, ap (λ o. and_then (ok_or o at) (swept rs (at + 1) K)) v.is ∙ t.1)

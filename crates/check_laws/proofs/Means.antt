@@ -1,16 +1,13 @@
 -- What it means that the depths of a method agree, and where each depth comes from. Assumes nothing.
-use Rattle.std.proofs.Common.{◌≡◌, ℕ, zero, suc, ◌+◌, ◌-◌, ◌<◌, ◌≤◌, Bool, true, false, cond, ◌&&◌, eqb, ltb, ◌≢◌, ◌⊎◌, List, [], ◌∷◌, length, get_or, set, replicate, Some, None, Ok, Err, Option, Result, All, option_and_then, unwrap_or, sym, refl, ap, ◌∙◌, subst, inl, inr, arith}
+use Rattle.std.proofs.Common.{◌≡◌, ℕ, zero, suc, ◌+◌, ◌-◌, ◌<◌, ◌≤◌, Bool, true, false, cond, ◌&&◌, eqb, ltb, ◌≢◌, ◌⊎◌, List, [], ◌∷◌, length, get_or, set, replicate, Some, None, Ok, Err, Option, All, ok_or, option_and_then, unwrap_or, sym, refl, ap, ◌∙◌, subst, inl, inr, arith}
 use Rattle.std.proofs.lemmas.List.{get_or-set_same, get_or-set_other, length-set, length-replicate}
 use Rattle.std.proofs.lemmas.Bool.{ltb-true, ltb-false, eqb-true, cases_eq, cases_lt, and_cases, false≢true}
 use Rattle.std.proofs.lemmas.List.Elements.{All-nil, All-head, All-tail, All-cons, All-weaker}
 use Rattle.std.proofs.lemmas.Option.{same_Some}
+use Rattle.sheet.specs.Maps.{and_then}
 use Rattle.check_rules.specs.declared.effect.Effect.{Effect}
-use Rattle.check_rules.specs.Depths.{Depths, agreed, give, give_if, give_to, visited, afterwards, swept, caught, begun}
+use Rattle.check_rules.specs.Depths.{Depths, agreed, give, give_if, give_to, visited, swept, caught, begun}
 use Rattle.check_rules.specs.Meaning.{Sound, Typed, Leads, FromBelow}
-
--- what has a depth keeps it
-abbrev Keeps : Depths → Depths → Type 0
-Keeps ds es = (l d : ℕ) → get_or ds l None ≡ Some d → get_or es l None ≡ Some d
 
 -- no depth is above the limit
 abbrev pub Low : ℕ → Depths → Type 0
@@ -136,7 +133,7 @@ pub sweep_means : (K : ℕ) (rows : List Effect) (at : ℕ) (ds es : Depths) →
 sweep_means K [] at ds es n low e = (subst (λ x. Step K ds x) (cc) (stay K ds), λ k r h q. absurd (omega arith))
 sweep_means K (x ∷ rows) at ds es n low e = by_visit (λ ds1 l low1 e1. sweep_means K rows (at + 1) ds1 es l low1 e1) (visited x at K ds) refl e
   where
-    by_visit : ((ds1 : Depths) → at + 1 + length rows ≡ length ds1 → Low K ds1 → swept rows (at + 1) K ds1 ≡ Ok es → Step K ds1 es × ((k : ℕ) (r : Effect) → k < length rows → r ≡ get_or rows k r → Sound K es r (at + 1 + k))) → (m : Option Depths) → visited x at K ds ≡ m → afterwards m at (swept rows (at + 1) K) ≡ Ok es → Step K ds es × ((k : ℕ) (r : Effect) → k < length (x ∷ rows) → r ≡ get_or (x ∷ rows) k r → Sound K es r (at + k))
+    by_visit : ((ds1 : Depths) → at + 1 + length rows ≡ length ds1 → Low K ds1 → swept rows (at + 1) K ds1 ≡ Ok es → Step K ds1 es × ((k : ℕ) (r : Effect) → k < length rows → r ≡ get_or rows k r → Sound K es r (at + 1 + k))) → (m : Option Depths) → visited x at K ds ≡ m → and_then (ok_or m at) (swept rows (at + 1) K) ≡ Ok es → Step K ds es × ((k : ℕ) (r : Effect) → k < length (x ∷ rows) → r ≡ get_or (x ∷ rows) k r → Sound K es r (at + k))
     by_visit again None g e = cc
     by_visit again (Some ds1) g e =
         let v = visit_means K at x ds ds1 (omega arith) low g in
@@ -193,30 +190,41 @@ pub caught_length : (bs : List ℕ) (ds : Depths) → length (caught bs ds) ≡ 
 caught_length [] ds = refl
 caught_length (b ∷ bs) ds = caught_length bs (set ds b (Some 1)) ∙ length-set ds b (Some 1)
 
-pub none_low : (K n : ℕ) → Low K (set (replicate n None) 0 (Some 0))
-none_low K zero l e h = cc
-none_low K (suc n) zero e h = let p : 0 ≡ e = same_Some _ _ h in omega arith
-none_low K (suc n) (suc l) e h = still n l h
+-- THE DEPTHS AT THE START: none, but 0 at location 0
+abbrev pub start : ℕ → Depths
+start n = set (replicate n None) 0 (Some 0)
+
+start_length : (n : ℕ) → length (start n) ≡ n
+start_length n = let d : Option ℕ = None in length-set (replicate n d) 0 (Some 0) ∙ length-replicate n d
+
+pub start_within : (n : ℕ) (bs : List ℕ) → All (λ b. b < n) bs → All (λ b. b < length (start n)) bs
+start_within n bs w = subst (λ k. All (λ b. b < k) bs) (sym (start_length n)) w
+
+pub begun_length : (bs : List ℕ) (n : ℕ) → length (begun bs n) ≡ n
+begun_length bs n = caught_length bs (start n) ∙ start_length n
+
+pub start_origin : (n l x : ℕ) → get_or (start n) l None ≡ Some x → (l ≡ 0) × (x ≡ 0)
+start_origin zero l x e = cc
+start_origin (suc n) zero x e = (refl, sym (same_Some _ _ e))
+start_origin (suc n) (suc l) x e = absurd (unknown n l e)
   where
-    still : (n l : ℕ) → get_or (replicate n None) l None ≡ Some e → e ≤ K
-    still zero l h = cc
-    still (suc n) zero h = cc
-    still (suc n) (suc l) h = still n l h
+    unknown : (n l : ℕ) → get_or (replicate n None) l None ≡ Some x → ⊥
+    unknown zero l e = cc
+    unknown (suc n) zero e = cc
+    unknown (suc n) (suc l) e = unknown n l e
+
+pub begun_low : (K n : ℕ) (bs : List ℕ) → All (λ b. b < n) bs → All (λ b. 1 ≤ K) bs → Low K (begun bs n)
+begun_low K n bs within one = caught_low K bs (start n) (start_within n bs within) one (λ l e h. (let o = start_origin n l e h in omega arith))
 
 -- THE MEANING OF A PASS: a method whose sweep passes is typed by the depths that the sweep leaves
 pub pass_means : (K n : ℕ) (rows : List Effect) (bs : List ℕ) (es : Depths) → length rows ≡ suc n → All (λ b. b < suc n) bs → All (λ b. 0 < b) bs → All (λ b. 1 ≤ K) bs → swept rows 0 K (begun bs (suc n)) ≡ Ok es → Typed K rows bs es
 pass_means K n rows bs es ln inside above one e =
-    let base : Depths = set (replicate (suc n) None) 0 (Some 0) in
-    let no_depth : Option ℕ = None in
-    let lr = length-replicate (suc n) no_depth in
-    let lb = length-set (replicate (suc n) no_depth) 0 (Some 0) in
-    let lc : length (begun bs (suc n)) ≡ suc n = caught_length bs base ∙ (lb ∙ lr) in
-    let within = subst (λ k. All (λ b. b < k) bs) (sym (lb ∙ lr)) inside in
-    let w = sweep_means K rows 0 (begun bs (suc n)) es (omega arith) (caught_low K bs base within one (none_low K (suc n))) e in
+    let long = begun_length bs (suc n) in
+    let w = sweep_means K rows 0 (begun bs (suc n)) es (omega arith) (begun_low K (suc n) bs inside one) e in
     record {
-      begins = w.0.keeps 0 0 (caught_zero bs base above refl);
+      begins = w.0.keeps 0 0 (caught_zero bs (start (suc n)) above refl);
       sound = λ at r h q. (let z : 0 + at ≡ at = omega arith in subst (λ k. Sound K es r k) z (w.1 at r h q));
-      caught = All-weaker (λ b. get_or (begun bs (suc n)) b None ≡ Some 1) (λ b. get_or es b None ≡ Some 1) (λ b h. w.0.keeps b 1 h) bs (caught_all bs base within);
+      caught = All-weaker (λ b. get_or (begun bs (suc n)) b None ≡ Some 1) (λ b. get_or es b None ≡ Some 1) (λ b h. w.0.keeps b 1 h) bs (caught_all bs (start (suc n)) (start_within (suc n) bs inside));
     }
 
 -- WHERE A DEPTH COMES FROM: it is 0, or was there, or a row below led there
@@ -327,7 +335,7 @@ pub sweep_origin : (K : ℕ) (rows : List Effect) (at : ℕ) (ds es : Depths) �
 sweep_origin K [] at ds es n low k e l x h = let q : ds ≡ es = cc in inr (inl (ap (λ y. get_or y l None) q ∙ h))
 sweep_origin K (r ∷ rows) at ds es n low k e l x h = by_visit (λ d1 a b c f. sweep_origin K rows (at + 1) d1 es a b c f l x h) (visited r at K ds) refl e
   where
-    by_visit : ((d1 : Depths) → at + 1 + length rows ≡ length d1 → Low K d1 → Known (at + 1) d1 → swept rows (at + 1) K d1 ≡ Ok es → (x ≡ 0) ⊎ ((get_or d1 l None ≡ Some x) ⊎ FromBelow rows (at + 1) l)) → (m : Option Depths) → visited r at K ds ≡ m → afterwards m at (swept rows (at + 1) K) ≡ Ok es → (x ≡ 0) ⊎ ((get_or ds l None ≡ Some x) ⊎ FromBelow (r ∷ rows) at l)
+    by_visit : ((d1 : Depths) → at + 1 + length rows ≡ length d1 → Low K d1 → Known (at + 1) d1 → swept rows (at + 1) K d1 ≡ Ok es → (x ≡ 0) ⊎ ((get_or d1 l None ≡ Some x) ⊎ FromBelow rows (at + 1) l)) → (m : Option Depths) → visited r at K ds ≡ m → and_then (ok_or m at) (swept rows (at + 1) K) ≡ Ok es → (x ≡ 0) ⊎ ((get_or ds l None ≡ Some x) ⊎ FromBelow (r ∷ rows) at l)
     by_visit again None g e = cc
     by_visit again (Some d1) g e =
         let lt : at < length ds = omega arith in

@@ -1,8 +1,8 @@
 -- A method is checked exactly when it cannot go wrong. Assumes nothing.
-use Rattle.std.proofs.Common.{◌≡◌, ℕ, zero, suc, ◌+◌, ◌-◌, ◌<◌, ◌≤◌, Bool, true, false, cond, ltb, leb, ◌⊎◌, List, [], ◌∷◌, map, length, get_or, set, replicate, Some, None, Ok, Err, Option, Result, All, unwrap_or, sym, refl, ap, ◌∙◌, subst, inl, inr, ⊎_elim, arith}
+use Rattle.std.proofs.Common.{◌≡◌, ℕ, zero, suc, ◌+◌, ◌-◌, ◌<◌, ◌≤◌, Bool, true, false, cond, ltb, leb, ◌⊎◌, List, [], ◌∷◌, map, length, get_or, set, Some, None, Ok, Err, Result, All, unwrap_or, sym, refl, ap, ◌∙◌, subst, inl, inr, ⊎_elim, arith}
 use Rattle.std.proofs.lemmas.List.Elements.{All-nil, All-head, All-tail, All-cons, All-map, All-weaker}
 use Rattle.std.proofs.lemmas.Option.{none-some, same_Some}
-use Rattle.std.proofs.lemmas.List.{length-map, length-set, length-replicate, get_or_past, get_or-set_other, get_or-set_same}
+use Rattle.std.proofs.lemmas.List.{length-map, length-set, get_or_past, get_or-set_other, get_or-set_same}
 use Rattle.std.proofs.lemmas.Bool.{and_parts, ltb-true, ltb-false, leb-true, le-ltb, cond-true, cond-false, cases_Bool, cases_lt, cases_eq}
 use Rattle.sheet.specs.Maps.{and_then, raised}
 use Rattle.sheet.specs.Reading.{none}
@@ -24,7 +24,7 @@ use Rattle.check_rules.specs.declared.effect.Effect.{Effect}
 use Rattle.check_rules.specs.declared.faults.MethodFault.TheVariants.{NoInstruction, TooManyCells, Operand, Handler as AtHandler, Depth}
 use Rattle.check_laws.proofs.Codes.{all_back, all_decoded}
 use Rattle.check_laws.proofs.Complete.{Sits, Agrees, Ready, Good, sweep_passes}
-use Rattle.check_laws.proofs.Means.{Low, caught_all, caught_low, caught_length, none_low, sweep_means, pass_means, sweep_origin}
+use Rattle.check_laws.proofs.Means.{Low, caught_all, start, start_within, start_origin, begun_length, begun_low, sweep_means, pass_means, sweep_origin}
 
 -- THE HANDLERS
 
@@ -71,17 +71,6 @@ catches_limit limit n = catch_all limit n (λ b. 1 ≤ limit) (λ x e. (catch_fa
 
 -- THE DEPTHS AT THE START
 
--- a list of places without depths
-unknown : (n l x : ℕ) → get_or (replicate n None) l None ≡ Some x → ⊥
-unknown zero l x e = cc
-unknown (suc n) zero x e = cc
-unknown (suc n) (suc l) x e = unknown n l x e
-
-start_origin : (n l x : ℕ) → get_or (set (replicate n None) 0 (Some 0)) l None ≡ Some x → (l ≡ 0) × (x ≡ 0)
-start_origin zero l x e = cc
-start_origin (suc n) zero x e = (refl, sym (same_Some _ _ e))
-start_origin (suc n) (suc l) x e = absurd (unknown n l x e)
-
 -- a depth at the start is 0 at location 0, or 1 at a catch begin
 caught_origin : (bs : List ℕ) (ds : Depths) (l x : ℕ) → get_or (caught bs ds) l None ≡ Some x → (get_or ds l None ≡ Some x) ⊎ ((x ≡ 1) × Among l bs)
 caught_origin [] ds l x e = inl e
@@ -102,11 +91,6 @@ caught_origin (b ∷ bs) ds l x e =
 begun_origin : (bs : List ℕ) (n l x : ℕ) → get_or (begun bs n) l None ≡ Some x → ((l ≡ 0) × (x ≡ 0)) ⊎ ((x ≡ 1) × Among l bs)
 begun_origin bs n l x e = ⊎_elim (λ h. inl (start_origin n l x h)) (λ w. inr w) (caught_origin bs _ l x e)
 
-begun_length : (bs : List ℕ) (n : ℕ) → length (begun bs n) ≡ n
-begun_length bs n =
-    let nothing : Option ℕ = None in
-    caught_length bs (set (replicate n nothing) 0 (Some 0)) ∙ length-set (replicate n nothing) 0 (Some 0) ∙ length-replicate n nothing
-
 -- what holds of all of a list holds of one that is among them
 all_among : (P : ℕ → Type 0) (cs : List ℕ) → All P cs → (l : ℕ) → Among l cs → P l
 all_among P [] w l m = absurd m
@@ -115,19 +99,13 @@ all_among P (c ∷ cs) w l (inr m) = all_among P cs (All-tail P c cs w) l m
 
 -- a catch begin has depth 1 at the start
 begun_catch : (bs : List ℕ) (n l : ℕ) → All (λ b. b < n) bs → Among l bs → get_or (begun bs n) l None ≡ Some 1
-begun_catch bs n l w m =
-    let nothing : Option ℕ = None in
-    let k = length-set (replicate n nothing) 0 (Some 0) ∙ length-replicate n nothing in
-    all_among (λ b. get_or (begun bs n) b None ≡ Some 1) bs (caught_all bs (set (replicate n nothing) 0 (Some 0)) (subst (λ j. All (λ b. b < j) bs) (sym k) w)) l m
+begun_catch bs n l w m = all_among (λ b. get_or (begun bs n) b None ≡ Some 1) bs (caught_all bs (start n) (start_within n bs w)) l m
 
 -- FROM A SWEEP THAT PASSES TO ITS MEANING
 
 module _ (limit : ℕ) (fs : List Effect) (bs : List ℕ) (within : All (λ b. b < length fs) bs) (above : All (λ b. 0 < b) bs) (one : All (λ b. 1 ≤ limit) bs) (some : 0 < length fs) where
   start_low : Low limit (begun bs (length fs))
-  start_low =
-      let nothing : Option ℕ = None in
-      let k = length-set (replicate (length fs) nothing) 0 (Some 0) ∙ length-replicate (length fs) nothing in
-      caught_low limit bs (set (replicate (length fs) nothing) 0 (Some 0)) (subst (λ j. All (λ b. b < j) bs) (sym k) within) one (none_low limit (length fs))
+  start_low = begun_low limit (length fs) bs within one
 
   module _ (ds : Depths) (e : swept fs 0 limit (begun bs (length fs)) ≡ Ok ds) where
     swept_typed : Typed limit fs bs ds

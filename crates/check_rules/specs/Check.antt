@@ -1,5 +1,5 @@
 -- The check of a sheet: the checked sheet, or the lowest method that is refused with the first of its faults. Assumes nothing.
-use Rattle.std.specs.Prelude.{ℕ, suc, ◌+◌, List, [], ◌∷◌, map, length, Some, None, Ok, Err, Option, Result, nat_lt, if◌then◌else◌}
+use Rattle.std.specs.Prelude.{ℕ, suc, ◌+◌, List, [], ◌∷◌, map, length, Ok, Err, Result, ok_or, nat_lt, if◌then◌else◌}
 use Rattle.sheet.specs.Maps.{and_then, raised}
 use Rattle.sheet.specs.Reading.{TextSheet, none}
 use Rattle.sheet.specs.View.{Method, Sheet}
@@ -30,15 +30,10 @@ CheckedMethod = Method (Instruction PlainLocation) (Handler PlainLocation)
 abbrev pub CheckedForm : Type 0
 CheckedForm = Sheet (Instruction PlainLocation) (Handler PlainLocation)
 
--- one instruction ahead of the others, or the fault at its location
-abbrev pub decoded_then : ℕ → Option (Instruction PlainLocation) → Result (List (Instruction PlainLocation)) ℕ → Result (List (Instruction PlainLocation)) ℕ
-decoded_then at None rest = Err at
-decoded_then at (Some i) rest = and_then rest (λ is. Ok (i ∷ is))
-
 -- the instructions of a method from a location on, or the first whose operand means nothing
 abbrev pub decoded_from : Place → ℕ → List ReadInstruction → Result (List (Instruction PlainLocation)) ℕ
 decoded_from p at [] = Ok []
-decoded_from p at (r ∷ rs) = decoded_then at (decoded p r) (decoded_from p (suc at) rs)
+decoded_from p at (r ∷ rs) = and_then (ok_or (decoded p r) at) (λ i. and_then (decoded_from p (suc at) rs) (λ is. Ok (i ∷ is)))
 
 -- that the handlers of a method suit it, from one on, or the first that does not
 abbrev pub handled_from : ℕ → ℕ → ℕ → List (Handler PlainLocation) → Result (Unit {0}) ℕ

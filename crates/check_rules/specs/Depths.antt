@@ -1,6 +1,7 @@
 -- The depths of a method's locations, found by taking them upward. Assumes nothing.
-use Rattle.std.specs.Prelude.{ℕ, ◌+◌, ◌-◌, Bool, true, false, ◌&&◌, List, [], ◌∷◌, length, replicate, Some, None, Ok, Err, Option, Result, ◌==◌, nat_lt, slice_index_or, slice_set, option_and_then, if◌then◌else◌}
+use Rattle.std.specs.Prelude.{ℕ, ◌+◌, ◌-◌, Bool, true, false, ◌&&◌, List, [], ◌∷◌, length, replicate, Some, None, Ok, Option, Result, ok_or, ◌==◌, nat_lt, slice_index_or, slice_set, option_and_then, if◌then◌else◌}
 use Rattle.std.specs.Option.{unwrap_or}
+use Rattle.sheet.specs.Maps.{and_then}
 use Rattle.check_rules.specs.declared.effect.Effect.{Effect}
 
 -- of each location the depth that it has so far, if it has one
@@ -35,17 +36,13 @@ visited r at limit ds =
     if nat_lt before r.takes then None
     else if r.exact && nat_lt r.takes before then None
     else if nat_lt limit after then None
-    else option_and_then (give_to r.jump after) (give_if r.falls (at + 1) after (slice_set ds at (Some before)))
-
--- the locations behind, or the fault at this one
-abbrev pub afterwards : Option Depths → ℕ → (Depths → Result Depths ℕ) → Result Depths ℕ
-afterwards None at f = Err at
-afterwards (Some ds) at f = f ds
+    else option_and_then (give_to r.jump after)
+    (give_if r.falls (at + 1) after (slice_set ds at (Some before)))
 
 -- all locations from one on, upward; a fault names the first that fails
 abbrev pub swept : List Effect → ℕ → ℕ → Depths → Result Depths ℕ
 swept [] at limit ds = Ok ds
-swept (r ∷ rs) at limit ds = afterwards (visited r at limit ds) at (swept rs (at + 1) limit)
+swept (r ∷ rs) at limit ds = and_then (ok_or (visited r at limit ds) at) (swept rs (at + 1) limit)
 
 -- each catch begin has depth 1
 abbrev pub caught : List ℕ → Depths → Depths

@@ -1,6 +1,6 @@
 -- The check of a whole sheet, method by method. Assumes nothing.
 use Rattle.std.proofs.Common.{◌≡◌, ℕ, suc, ◌+◌, ◌<◌, ◌≤◌, true, List, [], ◌∷◌, ◌++◌, map, length, get_or, take, drop, Some, Ok, Err, Result, option_map, slice_get, is_err, false, MatchResult, IsOk, OnOk, inl, inr, sym, refl, ap, ◌∙◌, arith}
-use Rattle.std.proofs.lemmas.List.{append-nil, at_drop_more, get_or-map, length-map, length-take-le, take-append-drop, take_more, take_all}
+use Rattle.std.proofs.lemmas.List.{at_drop_more, get_or-map, length-map, length-take-le, take-append-drop, take_more}
 use Rattle.std.proofs.lemmas.Option.{slice_get-get_or}
 use Rattle.sheet.specs.Bounds.{in_range}
 use Rattle.sheet.specs.Maps.{and_then, raised}
@@ -50,17 +50,18 @@ code_length a rs xs is e = sym (length-map is (encoded plain)) ∙ ap (λ m. len
 
 -- METHODS ONE BEHIND THE OTHER
 
+-- one more ahead of two parts
+regroup : (c : Result CheckedMethod CheckFault) (r s : Result (List CheckedMethod) CheckFault) → and_then c (λ m. and_then (and_then r (λ xs. and_then s (λ ys. Ok (xs ++ ys)))) (λ zs. Ok (m ∷ zs))) ≡ and_then (and_then c (λ m. and_then r (λ xs. Ok (m ∷ xs)))) (λ xs. and_then s (λ ys. Ok (xs ++ ys)))
+regroup (Err e) r s = refl
+regroup (Ok m) (Err e) s = refl
+regroup (Ok m) (Ok xs) (Err e) = refl
+regroup (Ok m) (Ok xs) (Ok ys) = refl
+
+alone : (r : Result (List CheckedMethod) CheckFault) → r ≡ and_then r (λ ys. Ok ([] ++ ys))
+alone (Ok ys) = refl
+alone (Err e) = refl
+
 module _ (library : List Signature) (shapes : List Shape) where
-  regroup : (c : Result CheckedMethod CheckFault) (r s : Result (List CheckedMethod) CheckFault) → and_then c (λ m. and_then (and_then r (λ xs. and_then s (λ ys. Ok (xs ++ ys)))) (λ zs. Ok (m ∷ zs))) ≡ and_then (and_then c (λ m. and_then r (λ xs. Ok (m ∷ xs)))) (λ xs. and_then s (λ ys. Ok (xs ++ ys)))
-  regroup (Err e) r s = refl
-  regroup (Ok m) (Err e) s = refl
-  regroup (Ok m) (Ok xs) (Err e) = refl
-  regroup (Ok m) (Ok xs) (Ok ys) = refl
-
-  alone : (r : Result (List CheckedMethod) CheckFault) → r ≡ and_then r (λ ys. Ok ([] ++ ys))
-  alone (Ok ys) = refl
-  alone (Err e) = refl
-
   -- methods from the j-th on, and behind them those from the n-th on
   methods_split : (j n : ℕ) (xs ys : List ReadMethod) → j + length xs ≡ n → methods_checked library shapes j (xs ++ ys) ≡ and_then (methods_checked library shapes j xs) (λ cs. and_then (methods_checked library shapes n ys) (λ ds. Ok (cs ++ ds)))
   methods_split j n [] ys e = let z : j ≡ n = omega arith in ap (λ k. methods_checked library shapes k ys) z ∙ alone (methods_checked library shapes n ys)

@@ -58,7 +58,7 @@ impl<'a> SheetCheck<'a> {
             ≡ Err (InMethod number e)) }
     {
         let method = self.method(number);
-        // The longest method has a place for each instruction: a check takes no memory.
+        // The longest method has a place for each instruction, since a check takes no memory.
         let mut code = [Instruction::Return; 2048];
         let code = &mut code[..method.read.len()];
         method.check(code)?;
@@ -70,13 +70,14 @@ impl<'a> SheetCheck<'a> {
     // Checks all methods in order, and adds them to a sheet that has none.
     fn check_all(&self, out: &mut CheckedStore) -> Result<(), CheckFault>
         requires { out.old ≡ record { library = self.now.read.now.library; methods = [] } }
-        ensures ok { OnOk result (MadeUpTo self.now.read.now (length self.now.read.now.methods) out.new) }
+        ensures ok { OnOk result
+            (MadeUpTo self.now.read.now (length self.now.read.now.methods) out.new) }
         ensures err { IfErr result (λ e. methods_checked self.now.read.now.library
             (shapes_of self.now.read.now.methods) 0 self.now.read.now.methods ≡ Err e) }
     {
         for method in 0..self.read.method_count() {
-            let checked = self.check_one(method, out);
-            checked.map_err(|fault| CheckFault::Method(method, fault))?;
+            self.check_one(method, out)
+                .map_err(|fault| CheckFault::Method(method, fault))?;
         }
         Ok(())
     }

@@ -99,10 +99,10 @@ impl MethodCheck<'_> {
         ensures ok { OnOk result (depths_swept self.now.around code.now depths.old ≡ Ok depths.new) }
         ensures err { IfErr result (λ e. depths_swept self.now.around code.now depths.old ≡ Err e) }
     {
+        let stack_limit = self.around.own.stack_limit;
         for (at, instruction) in code.iter().enumerate() {
             let effect = effect_of(*instruction, self.around);
-            let visited = visit(effect, at, self.around.own.stack_limit, depths);
-            visited.map_err(|_| MethodFault::Depth(at))?;
+            visit(effect, at, stack_limit, depths).map_err(|_| MethodFault::Depth(at))?;
         }
         Ok(())
     }
@@ -127,7 +127,7 @@ impl MethodCheck<'_> {
         ensures err { IfErr result
             (λ e. depths_checked self.now.around code.now self.now.handlers.now ≡ Err e) }
     {
-        // A method of the largest length has a place for each depth: a check takes no memory.
+        // The longest method has a place for each depth, since a check takes no memory.
         let mut depths = [None; 2048];
         depths[0] = Some(0);
         let depths = &mut depths[..code.len()];

@@ -1,5 +1,4 @@
-use Rattle.std.proofs.Common.{◌≡◌, ◌++◌, ◌∷◌, [], sym, ap, ◌∙◌, arith}
-use Rattle.std.specs.Option.{option_map}
+use Rattle.std.proofs.Common.{sym, ◌∙◌, arith}
 use Rattle.checking.proofs.Sheets.{shape_next}
 use Rattle.checking.proofs.check.own_shapes.Goals as goal
 
