@@ -2,15 +2,10 @@
 use Rattle.std.proofs.Common.{◌≡◌, ℕ, ◌+◌, ◌-◌, ◌<◌, ◌≤◌, Bool, true, false, cond, ◌&&◌, ltb, ◌⊎◌, List, [], ◌∷◌, length, get_or, set, Some, None, Ok, Option, unwrap_or, sym, refl, ap, ◌∙◌, subst, inl, inr, arith}
 use Rattle.std.proofs.lemmas.List.{get_or-set_same, get_or-set_other, length-set}
 use Rattle.std.proofs.lemmas.Bool.{lt-ltb, le-ltb, eq-eqb, cases_eq, false≢true}
+use Rattle.std.proofs.lemmas.Option.{same_Some}
 use Rattle.check_rules.specs.declared.effect.Effect.{Effect}
-use Rattle.check_rules.specs.Depths.{Depths, agreed, give, then, give_if, give_to, visited, afterwards, swept}
+use Rattle.check_rules.specs.Depths.{Depths, agreed, give, give_if, give_to, visited, afterwards, swept}
 use Rattle.check_rules.specs.Meaning.{FromBelow}
-
-not_both : {d : ℕ} {X : Type 0} → ◌≡◌ {A = Option ℕ} None (Some d) → X
-not_both e = absurd (let z : ◌≡◌ {A = ℕ} 0 1 = cc in omega arith)
-
-some_is : {a b : ℕ} → ◌≡◌ {A = Option ℕ} (Some a) (Some b) → a ≡ b
-some_is e = cc
 
 module _ (D : ℕ → ℕ) (N K : ℕ) where
   -- a row that sits at its location, where the locations have the depths D
@@ -39,7 +34,7 @@ module _ (D : ℕ → ℕ) (N K : ℕ) where
               agrees =
                   λ l d h.
                   elim (cases_eq l next) [
-                    | inl q ↦ ap D q ∙ some_is (sym (get_or-set_same ds next (Some (D next)) None (omega arith)) ∙ ap (λ k. get_or (set ds next (Some (D next))) k None) (sym q) ∙ h)
+                    | inl q ↦ ap D q ∙ same_Some _ _ (sym (get_or-set_same ds next (Some (D next)) None (omega arith)) ∙ ap (λ k. get_or (set ds next (Some (D next))) k None) (sym q) ∙ h)
                     | inr q ↦ a.agrees l d (sym (get_or-set_other ds next l (Some (D next)) None q) ∙ h)
                   ];
               long = length-set ds next (Some (D next)) ∙ n;
@@ -93,12 +88,12 @@ module _ (D : ℕ → ℕ) (N K : ℕ) where
   if_got false next d ds w a = record { es = ds; is = refl; onto = stay ds a; there = λ t. absurd (false≢true t) }
 
   to_got : (j : Option ℕ) (d : ℕ) (ds : Depths) → ((t : ℕ) → j ≡ Some t → (t < N) × (D t ≡ d)) → Agrees ds → GotTo j d ds (give_to j d ds)
-  to_got (Some n) d ds w a = let p = w n refl in let g = give_got n d ds p.0 p.1 a in record { es = g.es; is = g.is; onto = g.onto; there = λ t q. ap (λ k. get_or g.es k None) (sym (some_is q)) ∙ g.there }
-  to_got None d ds w a = record { es = ds; is = refl; onto = stay ds a; there = λ t q. not_both q }
+  to_got (Some n) d ds w a = let p = w n refl in let g = give_got n d ds p.0 p.1 a in record { es = g.es; is = g.is; onto = g.onto; there = λ t q. ap (λ k. get_or g.es k None) (sym (same_Some _ _ q)) ∙ g.there }
+  to_got None d ds w a = record { es = ds; is = refl; onto = stay ds a; there = λ t q. cc }
 
   before_is : (at : ℕ) (ds : Depths) (o : Option ℕ) → get_or ds at None ≡ o → Agrees ds → (D at ≡ 0) ⊎ (get_or ds at None ≡ Some (D at)) → unwrap_or o 0 ≡ D at
   before_is at ds None e a (inl z) = sym z
-  before_is at ds None e a (inr q) = not_both (sym e ∙ q)
+  before_is at ds None e a (inr q) = (let w = sym e ∙ q in cc)
   before_is at ds (Some d) e a w = sym (a.agrees at d e)
 
   exact_fine : (b : Bool) (t d : ℕ) → (b ≡ true → d ≡ t) → (b && ltb t d) ≡ false
@@ -122,13 +117,7 @@ module _ (D : ℕ → ℕ) (N K : ℕ) where
       let b = before_is at ds (get_or ds at None) refl a w in
       record {
         es = j.es;
-        is =
-            ap (λ x. cond (ltb x r.takes) None (cond (r.exact && ltb r.takes x) None (cond (ltb K (x - r.takes + r.leaves)) None (then (give_if r.falls (at + 1) (x - r.takes + r.leaves) (set ds at (Some x))) (give_to r.jump (x - r.takes + r.leaves)))))) b
-            ∙ ap (λ t. cond t None (cond (r.exact && ltb r.takes (D at)) None (cond (ltb K after) None (then (give_if r.falls (at + 1) after ds1) (give_to r.jump after))))) (le-ltb (D at) r.takes s.enough)
-            ∙ ap (λ t. cond t None (cond (ltb K after) None (then (give_if r.falls (at + 1) after ds1) (give_to r.jump after)))) (exact_fine r.exact r.takes (D at) s.exact)
-            ∙ ap (λ t. cond t None (then (give_if r.falls (at + 1) after ds1) (give_to r.jump after))) (le-ltb K after s.fits)
-            ∙ ap (λ t. then t (give_to r.jump after)) f.is
-            ∙ j.is;
+        is = rw (b, le-ltb (D at) r.takes s.enough, exact_fine r.exact r.takes (D at) s.exact, le-ltb K after s.fits, f.is) j.is;
         onto = record { fine = j.onto.fine; keeps = λ l d h. j.onto.keeps l d (f.onto.keeps l d (o.keeps l d h)) };
         on = λ t. j.onto.keeps (at + 1) (D (at + 1)) (f.there t ∙ ap Some (sym (s.goes_on t).1));
         to = λ t q. j.there t q ∙ ap Some (sym (s.goes_to t q).1);

@@ -1,6 +1,7 @@
 -- A method is checked exactly when it cannot go wrong. Assumes nothing.
-use Rattle.std.proofs.Common.{◌≡◌, ℕ, zero, suc, ◌+◌, ◌-◌, ◌<◌, ◌≤◌, Bool, true, false, cond, ltb, leb, ◌⊎◌, List, [], ◌∷◌, map, length, get_or, set, replicate, Some, None, Ok, Err, Option, Result, unwrap_or, sym, refl, ap, ◌∙◌, subst, inl, inr, ⊎_elim, arith}
-use Rattle.std.specs.List.{AllByRecursion}
+use Rattle.std.proofs.Common.{◌≡◌, ℕ, zero, suc, ◌+◌, ◌-◌, ◌<◌, ◌≤◌, Bool, true, false, cond, ltb, leb, ◌⊎◌, List, [], ◌∷◌, map, length, get_or, set, replicate, Some, None, Ok, Err, Option, Result, All, unwrap_or, sym, refl, ap, ◌∙◌, subst, inl, inr, ⊎_elim, arith}
+use Rattle.std.proofs.lemmas.List.Elements.{All-nil, All-head, All-tail, All-cons, All-map, All-weaker}
+use Rattle.std.proofs.lemmas.Option.{none-some, same_Some}
 use Rattle.std.proofs.lemmas.List.{length-map, length-set, length-replicate, get_or_past, get_or-set_other, get_or-set_same}
 use Rattle.std.proofs.lemmas.Bool.{and_parts, ltb-true, ltb-false, leb-true, le-ltb, cond-true, cond-false, cases_Bool, cases_lt, cases_eq}
 use Rattle.sheet.specs.Maps.{and_then, raised}
@@ -27,17 +28,21 @@ use Rattle.check_laws.proofs.Means.{Low, caught_all, caught_low, caught_length, 
 
 -- THE HANDLERS
 
-pub all_suit : (limit n at : ℕ) (xs : List (Handler PlainLocation)) → handled_from limit n at xs ≡ Ok tt → AllByRecursion (λ x. handles limit n x ≡ true) xs
-all_suit limit n at [] e = tt
+-- a handler suits a method with this stack limit and n instructions
+abbrev pub Suits : ℕ → ℕ → Handler PlainLocation → Type 0
+Suits limit n x = handles limit n x ≡ true
+
+pub all_suit : (limit n at : ℕ) (xs : List (Handler PlainLocation)) → handled_from limit n at xs ≡ Ok tt → All (Suits limit n) xs
+all_suit limit n at [] e = All-nil (Suits limit n)
 all_suit limit n at (x ∷ xs) e =
     ⊎_elim
-    (λ b. (b, all_suit limit n (suc at) xs (sym (cond-true (handles limit n x) _ _ b) ∙ e)))
-    (λ b. absurd (let s = sym (cond-false (handles limit n x) (handled_from limit n (suc at) xs) (Err at) b) ∙ e in let z : ◌≡◌ {A = ℕ} 0 1 = cc in omega arith))
+    (λ b. All-cons (Suits limit n) x xs b (all_suit limit n (suc at) xs (sym (cond-true (handles limit n x) _ _ b) ∙ e)))
+    (λ b. (let s = sym (cond-false (handles limit n x) (handled_from limit n (suc at) xs) (Err at) b) ∙ e in cc))
     (cases_Bool (handles limit n x))
 
-pub suit_all : (limit n at : ℕ) (xs : List (Handler PlainLocation)) → AllByRecursion (λ x. handles limit n x ≡ true) xs → handled_from limit n at xs ≡ Ok tt
+suit_all : (limit n at : ℕ) (xs : List (Handler PlainLocation)) → All (Suits limit n) xs → handled_from limit n at xs ≡ Ok tt
 suit_all limit n at [] w = refl
-suit_all limit n at (x ∷ xs) w = cond-true (handles limit n x) _ _ w.0 ∙ suit_all limit n (suc at) xs w.1
+suit_all limit n at (x ∷ xs) w = cond-true (handles limit n x) _ _ (All-head (Suits limit n) x xs w) ∙ suit_all limit n (suc at) xs (All-tail (Suits limit n) x xs w)
 
 -- what a handler that suits says of its catch begin
 catch_facts : (limit n : ℕ) (x : Handler PlainLocation) → handles limit n x ≡ true → (x.catch_begin.number < n) × (0 < x.catch_begin.number) × (1 ≤ limit)
@@ -51,35 +56,30 @@ catch_facts limit n x e =
     let g = leb-true _ _ h.1 in
     (omega arith, ltb-true 0 _ c.0, ltb-true 0 limit d.1)
 
-pub catches_within : (limit n : ℕ) (xs : List (Handler PlainLocation)) → AllByRecursion (λ x. handles limit n x ≡ true) xs → AllByRecursion (λ b. b < n) (catches xs)
-catches_within limit n [] w = tt
-catches_within limit n (x ∷ xs) w = ((catch_facts limit n x w.0).0, catches_within limit n xs w.1)
+-- what follows for the catch begins, where the handlers suit
+catch_all : (limit n : ℕ) (P : ℕ → Type 0) → ((x : Handler PlainLocation) → Suits limit n x → P x.catch_begin.number) → (xs : List (Handler PlainLocation)) → All (Suits limit n) xs → All P (catches xs)
+catch_all limit n P f xs w = All-map P (λ x. x.catch_begin.number) xs (All-weaker (Suits limit n) (λ x. P x.catch_begin.number) f xs w)
 
-catches_above : (limit n : ℕ) (xs : List (Handler PlainLocation)) → AllByRecursion (λ x. handles limit n x ≡ true) xs → AllByRecursion (λ b. 0 < b) (catches xs)
-catches_above limit n [] w = tt
-catches_above limit n (x ∷ xs) w = ((catch_facts limit n x w.0).1, catches_above limit n xs w.1)
+pub catches_within : (limit n : ℕ) (xs : List (Handler PlainLocation)) → All (Suits limit n) xs → All (λ b. b < n) (catches xs)
+catches_within limit n = catch_all limit n (λ b. b < n) (λ x e. (catch_facts limit n x e).0)
 
-catches_limit : (limit n : ℕ) (xs : List (Handler PlainLocation)) → AllByRecursion (λ x. handles limit n x ≡ true) xs → AllByRecursion (λ b. 1 ≤ limit) (catches xs)
-catches_limit limit n [] w = tt
-catches_limit limit n (x ∷ xs) w = ((catch_facts limit n x w.0).2, catches_limit limit n xs w.1)
+catches_above : (limit n : ℕ) (xs : List (Handler PlainLocation)) → All (Suits limit n) xs → All (λ b. 0 < b) (catches xs)
+catches_above limit n = catch_all limit n (λ b. 0 < b) (λ x e. (catch_facts limit n x e).1)
+
+catches_limit : (limit n : ℕ) (xs : List (Handler PlainLocation)) → All (Suits limit n) xs → All (λ b. 1 ≤ limit) (catches xs)
+catches_limit limit n = catch_all limit n (λ b. 1 ≤ limit) (λ x e. (catch_facts limit n x e).2)
 
 -- THE DEPTHS AT THE START
 
-some_is : {a b : ℕ} → ◌≡◌ {A = Option ℕ} (Some a) (Some b) → a ≡ b
-some_is e = cc
-
-no_some : {X : Type 0} {d : ℕ} → ◌≡◌ {A = Option ℕ} None (Some d) → X
-no_some e = absurd (let z : ◌≡◌ {A = ℕ} 0 1 = cc in omega arith)
-
 -- a list of places without depths
 unknown : (n l x : ℕ) → get_or (replicate n None) l None ≡ Some x → ⊥
-unknown zero l x e = no_some e
-unknown (suc n) zero x e = no_some e
+unknown zero l x e = cc
+unknown (suc n) zero x e = cc
 unknown (suc n) (suc l) x e = unknown n l x e
 
 start_origin : (n l x : ℕ) → get_or (set (replicate n None) 0 (Some 0)) l None ≡ Some x → (l ≡ 0) × (x ≡ 0)
-start_origin zero l x e = no_some e
-start_origin (suc n) zero x e = (refl, sym (some_is e))
+start_origin zero l x e = cc
+start_origin (suc n) zero x e = (refl, sym (same_Some _ _ e))
 start_origin (suc n) (suc l) x e = absurd (unknown n l x e)
 
 -- a depth at the start is 0 at location 0, or 1 at a catch begin
@@ -91,8 +91,8 @@ caught_origin (b ∷ bs) ds l x e =
     ⊎_elim
     (λ q.
     ⊎_elim
-    (λ inside. inr (sym (some_is (sym (get_or-set_same ds b (Some 1) None inside) ∙ ap (λ k. get_or (set ds b (Some 1)) k None) (sym q) ∙ h)), inl q))
-    (λ past. absurd (let n = length-set ds b (Some 1) in no_some (sym (get_or_past (set ds b (Some 1)) l None (omega arith)) ∙ h)))
+    (λ inside. inr (sym (same_Some _ _ (sym (get_or-set_same ds b (Some 1) None inside) ∙ ap (λ k. get_or (set ds b (Some 1)) k None) (sym q) ∙ h)), inl q))
+    (λ past. absurd (let n = length-set ds b (Some 1) in none-some x (sym (get_or_past (set ds b (Some 1)) l None (omega arith)) ∙ h)))
     (cases_lt b (length ds)))
     (λ q. inl (sym (get_or-set_other ds b l (Some 1) None q) ∙ h))
     (cases_eq l b))
@@ -107,32 +107,33 @@ begun_length bs n =
     let nothing : Option ℕ = None in
     caught_length bs (set (replicate n nothing) 0 (Some 0)) ∙ length-set (replicate n nothing) 0 (Some 0) ∙ length-replicate n nothing
 
+-- what holds of all of a list holds of one that is among them
+all_among : (P : ℕ → Type 0) (cs : List ℕ) → All P cs → (l : ℕ) → Among l cs → P l
+all_among P [] w l m = absurd m
+all_among P (c ∷ cs) w l (inl q) = subst P (sym q) (All-head P c cs w)
+all_among P (c ∷ cs) w l (inr m) = all_among P cs (All-tail P c cs w) l m
+
 -- a catch begin has depth 1 at the start
-begun_catch : (bs : List ℕ) (n l : ℕ) → AllByRecursion (λ b. b < n) bs → Among l bs → get_or (begun bs n) l None ≡ Some 1
+begun_catch : (bs : List ℕ) (n l : ℕ) → All (λ b. b < n) bs → Among l bs → get_or (begun bs n) l None ≡ Some 1
 begun_catch bs n l w m =
     let nothing : Option ℕ = None in
     let k = length-set (replicate n nothing) 0 (Some 0) ∙ length-replicate n nothing in
-    pick bs (caught_all bs (set (replicate n nothing) 0 (Some 0)) (subst (λ j. AllByRecursion (λ b. b < j) bs) (sym k) w)) m
-  where
-    pick : (cs : List ℕ) → AllByRecursion (λ b. get_or (begun bs n) b None ≡ Some 1) cs → Among l cs → get_or (begun bs n) l None ≡ Some 1
-    pick [] v m = absurd m
-    pick (c ∷ cs) v (inl q) = ap (λ j. get_or (begun bs n) j None) q ∙ v.0
-    pick (c ∷ cs) v (inr m) = pick cs v.1 m
+    all_among (λ b. get_or (begun bs n) b None ≡ Some 1) bs (caught_all bs (set (replicate n nothing) 0 (Some 0)) (subst (λ j. All (λ b. b < j) bs) (sym k) w)) l m
 
 -- FROM A SWEEP THAT PASSES TO ITS MEANING
 
-module _ (limit : ℕ) (fs : List Effect) (bs : List ℕ) (within : AllByRecursion (λ b. b < length fs) bs) (above : AllByRecursion (λ b. 0 < b) bs) (one : AllByRecursion (λ b. 1 ≤ limit) bs) (some : 0 < length fs) where
+module _ (limit : ℕ) (fs : List Effect) (bs : List ℕ) (within : All (λ b. b < length fs) bs) (above : All (λ b. 0 < b) bs) (one : All (λ b. 1 ≤ limit) bs) (some : 0 < length fs) where
   start_low : Low limit (begun bs (length fs))
   start_low =
       let nothing : Option ℕ = None in
       let k = length-set (replicate (length fs) nothing) 0 (Some 0) ∙ length-replicate (length fs) nothing in
-      caught_low limit bs (set (replicate (length fs) nothing) 0 (Some 0)) (subst (λ j. AllByRecursion (λ b. b < j) bs) (sym k) within) one (none_low limit (length fs))
+      caught_low limit bs (set (replicate (length fs) nothing) 0 (Some 0)) (subst (λ j. All (λ b. b < j) bs) (sym k) within) one (none_low limit (length fs))
 
   module _ (ds : Depths) (e : swept fs 0 limit (begun bs (length fs)) ≡ Ok ds) where
     swept_typed : Typed limit fs bs ds
     swept_typed =
         let n : length fs ≡ suc (length fs - 1) = omega arith in
-        pass_means limit (length fs - 1) fs bs ds n (subst (λ k. AllByRecursion (λ b. b < k) bs) n within) above one (ap (λ k. swept fs 0 limit (begun bs k)) (sym n) ∙ e)
+        pass_means limit (length fs - 1) fs bs ds n (subst (λ k. All (λ b. b < k) bs) n within) above one (ap (λ k. swept fs 0 limit (begun bs k)) (sym n) ∙ e)
 
     swept_length : length ds ≡ length fs
     swept_length =
@@ -148,7 +149,7 @@ module _ (limit : ℕ) (fs : List Effect) (bs : List ℕ) (within : AllByRecursi
 
 -- AND BACK
 
-module _ (limit : ℕ) (fs : List Effect) (bs : List ℕ) (within : AllByRecursion (λ b. b < length fs) bs) (ds : Depths) (long : length ds ≡ length fs) (typed : Typed limit fs bs ds) (below : (l d : ℕ) → get_or ds l None ≡ Some d → (d ≡ 0) ⊎ (Among l bs ⊎ FromBelow fs 0 l)) where
+module _ (limit : ℕ) (fs : List Effect) (bs : List ℕ) (within : All (λ b. b < length fs) bs) (ds : Depths) (long : length ds ≡ length fs) (typed : Typed limit fs bs ds) (below : (l d : ℕ) → get_or ds l None ≡ Some d → (d ≡ 0) ⊎ (Among l bs ⊎ FromBelow fs 0 l)) where
   -- the depth of a location
   depth : ℕ → ℕ
   depth l = unwrap_or (get_or ds l None) 0
@@ -158,7 +159,7 @@ module _ (limit : ℕ) (fs : List Effect) (bs : List ℕ) (within : AllByRecursi
   depth_is l d e = ap (λ o. unwrap_or o 0) e
 
   inside : (l d : ℕ) → get_or ds l None ≡ Some d → l < length fs
-  inside l d e = ⊎_elim (λ h. h) (λ h. no_some (sym (get_or_past ds l None (omega arith)) ∙ e)) (cases_lt l (length fs))
+  inside l d e = ⊎_elim (λ h. h) (λ h. absurd (none-some d (sym (get_or_past ds l None (omega arith)) ∙ e))) (cases_lt l (length fs))
 
   sits : (at : ℕ) (r : Effect) → at < length fs → r ≡ get_or fs at r → Sits depth (length fs) limit r at
   sits at r h q =
@@ -180,14 +181,12 @@ module _ (limit : ℕ) (fs : List Effect) (bs : List ℕ) (within : AllByRecursi
         good rs (at + 1) (omega arith) (λ k x h q. (let s : at + suc k ≡ at + 1 + k = omega arith in subst (λ j. Sits depth (length fs) limit x j) s (each (suc k) x (omega arith) q))),
       )
 
-  caught_depth : (cs : List ℕ) → AllByRecursion (λ b. get_or ds b None ≡ Some 1) cs → (l : ℕ) → Among l cs → depth l ≡ 1
-  caught_depth [] w l m = absurd m
-  caught_depth (c ∷ cs) w l (inl q) = ap depth q ∙ depth_is c 1 w.0
-  caught_depth (c ∷ cs) w l (inr m) = caught_depth cs w.1 l m
+  caught_depth : (l : ℕ) → Among l bs → depth l ≡ 1
+  caught_depth l m = depth_is l 1 (all_among (λ b. get_or ds b None ≡ Some 1) bs typed.caught l m)
 
   agrees : Agrees depth (length fs) limit (begun bs (length fs))
   agrees = record {
-    agrees = λ l d h. ⊎_elim (λ z. ap depth z.0 ∙ depth_is 0 0 typed.begins ∙ sym z.1) (λ c. caught_depth bs typed.caught l c.1 ∙ sym c.0) (begun_origin bs (length fs) l d h);
+    agrees = λ l d h. ⊎_elim (λ z. ap depth z.0 ∙ depth_is 0 0 typed.begins ∙ sym z.1) (λ c. caught_depth l c.1 ∙ sym c.0) (begun_origin bs (length fs) l d h);
     long = begun_length bs (length fs);
   }
 
@@ -196,7 +195,7 @@ module _ (limit : ℕ) (fs : List Effect) (bs : List ℕ) (within : AllByRecursi
       let s = typed.sound l (get_or fs l nothing) h (get_or_default' fs l h) in
       let here = depth_is l s.depth s.here in
       ⊎_elim (λ z. inl (here ∙ z))
-      (λ w. ⊎_elim (λ m. inr (inl (begun_catch bs (length fs) l within m ∙ ap Some (sym (caught_depth bs typed.caught l m))))) (λ b. inr (inr b)) w)
+      (λ w. ⊎_elim (λ m. inr (inl (begun_catch bs (length fs) l within m ∙ ap Some (sym (caught_depth l m))))) (λ b. inr (inr b)) w)
       (below l s.depth s.here)
     where
       nothing : Effect
@@ -216,22 +215,22 @@ module _ (limit : ℕ) (fs : List Effect) (bs : List ℕ) (within : AllByRecursi
 -- a test that stood in the way did not hold
 unless : {A E : Type 0} (b : Bool) (f : E) (r : Result A E) (a : A) → cond b (Err f) r ≡ Ok a → (b ≡ false) × (r ≡ Ok a)
 unless false f r a e = (refl, e)
-unless true f r a e = absurd (let z : ◌≡◌ {A = ℕ} 0 1 = cc in omega arith)
+unless true f r a e = cc
 
 none_long : {X : Type 0} (xs : List X) → none xs ≡ false → 0 < length xs
-none_long [] e = absurd (let z : ◌≡◌ {A = ℕ} 0 1 = cc in omega arith)
+none_long [] e = cc
 none_long (x ∷ xs) e = omega arith
 
 module _ (library : List Signature) (shapes : List Shape) where
   -- a method whose parts passed
-  from_parts : (shape : Shape) (is : List (Instruction PlainLocation)) (xs : List (Handler PlainLocation)) (ds : Depths) → 0 < length is → shape.arguments + shape.locals + shape.stack_limit ≤ 256 → map (decoded (place_in library shapes shape (length is))) (map (encoded plain) is) ≡ map Some is → AllByRecursion (λ x. handles shape.stack_limit (length is) x ≡ true) xs → depths_of (place_in library shapes shape (length is)) is xs ≡ Ok ds → Passed library shapes (record { shape = shape; code = is; handlers = xs })
+  from_parts : (shape : Shape) (is : List (Instruction PlainLocation)) (xs : List (Handler PlainLocation)) (ds : Depths) → 0 < length is → shape.arguments + shape.locals + shape.stack_limit ≤ 256 → map (decoded (place_in library shapes shape (length is))) (map (encoded plain) is) ≡ map Some is → All (Suits shape.stack_limit (length is)) xs → depths_of (place_in library shapes shape (length is)) is xs ≡ Ok ds → Passed library shapes (record { shape = shape; code = is; handlers = xs })
   from_parts shape is xs ds some cells operands suits e =
       let p = place_in library shapes shape (length is) in
       let limit = shape.stack_limit in
       let fs = effects p is in
       let n : length fs ≡ length is = length-map is _ in
       let bs = catches xs in
-      let within = subst (λ k. AllByRecursion (λ b. b < k) bs) (sym n) (catches_within limit (length is) xs suits) in
+      let within = subst (λ k. All (λ b. b < k) bs) (sym n) (catches_within limit (length is) xs suits) in
       let above = catches_above limit (length is) xs suits in
       let one = catches_limit limit (length is) xs suits in
       let e' : swept fs 0 limit (begun bs (length fs)) ≡ Ok ds = ap (λ k. swept fs 0 limit (begun bs k)) n ∙ e in
@@ -263,7 +262,7 @@ module _ (library : List Signature) (shapes : List Shape) where
       let same : c ≡ m = cc in
       let back = all_back p 0 r.code is (raised_ok Operand (decoded_from p 0 r.code) is three.1) in
       let n : length r.code ≡ length is = ap length (sym back.0) ∙ length-map is (encoded plain) in
-      let suits = subst (λ k. AllByRecursion (λ x. handles limit k x ≡ true) xs) n (all_suit limit (length r.code) 0 xs (raised_ok AtHandler (handled_from limit (length r.code) 0 xs) four.0 four.1)) in
+      let suits = subst (λ k. All (Suits limit k) xs) n (all_suit limit (length r.code) 0 xs (raised_ok AtHandler (handled_from limit (length r.code) 0 xs) four.0 four.1)) in
       let operands : map (decoded (place_in library shapes shape (length is))) (map (encoded plain) is) ≡ map Some is = ap (λ k. map (decoded (place_in library shapes shape k)) (map (encoded plain) is)) (sym n) ∙ ap (map (decoded p)) back.0 ∙ back.1 in
       let depths : depths_of (place_in library shapes shape (length is)) is xs ≡ Ok ds = ap (λ k. depths_of (place_in library shapes shape k) is xs) (sym n) ∙ raised_ok Depth (depths_of p is xs) ds five.1 in
       let some : 0 < length is = omega (arith, none_long r.code one.0) in
@@ -285,7 +284,7 @@ module _ (library : List Signature) (shapes : List Shape) where
       let fs = effects q is in
       let k : length fs ≡ length is = length-map is _ in
       let bs = catches xs in
-      let within = subst (λ j. AllByRecursion (λ b. b < j) bs) (sym k) (catches_within limit (length is) xs w.handlers) in
+      let within = subst (λ j. All (λ b. b < j) bs) (sym k) (catches_within limit (length is) xs w.handlers) in
       let sweep = swept_passes limit fs bs within w.depths (w.long ∙ sym k) w.typed w.below in
       let ds = sweep.0 in
       let depths : depths_of p is xs ≡ Ok ds = ap (λ j. swept fs 0 limit (begun bs j)) (sym k) ∙ sweep.1 in

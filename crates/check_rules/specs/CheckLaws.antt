@@ -1,6 +1,5 @@
 -- What the check of a method, and of a sheet, means. Assumes nothing.
-use Rattle.std.specs.Prelude.{◌≡◌, ℕ, ◌+◌, ◌<◌, ◌≤◌, true, ◌⊎◌, List, map, length, Some, None, Ok, slice_index_or}
-use Rattle.std.specs.List.{AllByRecursion}
+use Rattle.std.specs.Prelude.{◌≡◌, ℕ, ◌+◌, ◌<◌, ◌≤◌, true, ◌⊎◌, List, map, length, Some, None, Ok, All, slice_index_or}
 use Rattle.sheet.specs.Reading.{TextSheet}
 use Rattle.sheet.specs.declared.records.Shape.{Shape}
 use Rattle.sheet.specs.declared.records.Signature.{Signature}
@@ -24,7 +23,7 @@ pub record Passed (library : List Signature) (shapes : List Shape) (m : CheckedM
   -- every operand means what the instruction carries
   pub operands : map (decoded (place_of_method library shapes m)) (map (encoded plain) m.code) ≡ map Some m.code
   -- every handler suits the method
-  pub handlers : AllByRecursion (λ x. handles m.shape.stack_limit (length m.code) x ≡ true) m.handlers
+  pub handlers : All (λ x. handles m.shape.stack_limit (length m.code) x ≡ true) m.handlers
   -- there is one depth for each location, under which every instruction is sound
   pub depths : Depths
   pub long : length depths ≡ length m.code
@@ -42,7 +41,7 @@ CheckLaw = (library : List Signature) (shapes : List Shape) (m : CheckedMethod) 
 
 -- no method of a sheet can go wrong
 abbrev pub AllPassed : CheckedForm → Type 0
-AllPassed s = AllByRecursion (Passed s.library (shapes_of s.methods)) s.methods
+AllPassed s = All (Passed s.library (shapes_of s.methods)) s.methods
 
 -- a sheet is checked exactly when it has a method and none that can go wrong; and it is the one that was read
 pub record SheetLaw (s : CheckedForm) : Type 0 where

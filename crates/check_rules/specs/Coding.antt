@@ -1,6 +1,5 @@
 -- An instruction decoded from an op and a number, and encoded again. Assumes nothing.
-use Rattle.std.specs.Prelude.{ℕ, List, length, ℤ, pos, negsuc, Some, None, Option, ◌==◌, nat_lt, slice_index_or, if◌then◌else◌}
-use Rattle.std.specs.Option.{option_map}
+use Rattle.std.specs.Prelude.{ℕ, List, length, ℤ, pos, negsuc, Some, None, Option, ◌==◌, nat_lt, slice_index_or, option_map, option_and_then, if◌then◌else◌}
 use Rattle.sheet.specs.Instructions.{op_of, operand_of, instruction_of}
 use Rattle.sheet.specs.Ops.{op_row}
 use Rattle.sheet.specs.declared.instruction.Instruction.{Instruction}
@@ -39,14 +38,9 @@ meaning p UseOf.OwnMethod z = option_map Index (below z (length p.shapes))
 meaning p UseOf.LibraryMethod z = option_map Index (below z (length p.library))
 meaning p UseOf.WatchedMethod z = option_map Index (watched_only p.library (below z (length p.library)))
 
--- go on with what is there
-abbrev pub then_try : {X Y : Type 0} → Option X → (X → Option Y) → Option Y
-then_try None f = None
-then_try (Some x) f = f x
-
 -- the instruction that a read one is, if its operand means something
 abbrev pub decoded : Place → ReadInstruction → Option (Instruction PlainLocation)
-decoded p r = then_try (meaning p (op_row r.op).operand r.operand) (instruction_of r.op)
+decoded p r = option_and_then (instruction_of r.op) (meaning p (op_row r.op).operand r.operand)
 
 -- an operand as a number
 abbrev pub operand_number : {P : Type 0} → (P → ℕ) → Operand P → ℤ

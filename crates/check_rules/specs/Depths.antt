@@ -1,5 +1,5 @@
 -- The depths of a method's locations, found by taking them upward. Assumes nothing.
-use Rattle.std.specs.Prelude.{ℕ, ◌+◌, ◌-◌, Bool, true, false, cond, ◌&&◌, List, [], ◌∷◌, length, replicate, Some, None, Ok, Err, Option, Result, ◌==◌, nat_lt, slice_index_or, slice_set}
+use Rattle.std.specs.Prelude.{ℕ, ◌+◌, ◌-◌, Bool, true, false, ◌&&◌, List, [], ◌∷◌, length, replicate, Some, None, Ok, Err, Option, Result, ◌==◌, nat_lt, slice_index_or, slice_set, option_and_then, if◌then◌else◌}
 use Rattle.std.specs.Option.{unwrap_or}
 use Rattle.check_rules.specs.declared.effect.Effect.{Effect}
 
@@ -10,16 +10,11 @@ Depths = List (Option ℕ)
 -- a location without a depth gets this one, and one with a depth must have it
 abbrev pub agreed : ℕ → ℕ → Depths → Option ℕ → Option Depths
 agreed next d ds None = Some (slice_set ds next (Some d))
-agreed next d ds (Some e) = cond (e == d) (Some ds) None
+agreed next d ds (Some e) = if e == d then Some ds else None
 
 -- a location is led to with a depth: it must exist
 abbrev pub give : ℕ → ℕ → Depths → Option Depths
-give next d ds = cond (nat_lt next (length ds)) (agreed next d ds (slice_index_or ds next None)) None
-
--- go on with the depths, if they did not fail
-abbrev pub then : Option Depths → (Depths → Option Depths) → Option Depths
-then None f = None
-then (Some ds) f = f ds
+give next d ds = if nat_lt next (length ds) then agreed next d ds (slice_index_or ds next None) else None
 
 -- the following location, if control may go there
 abbrev pub give_if : Bool → ℕ → ℕ → Depths → Option Depths
@@ -37,7 +32,10 @@ abbrev pub visited : Effect → ℕ → ℕ → Depths → Option Depths
 visited r at limit ds =
     let before = unwrap_or (slice_index_or ds at None) 0 in
     let after = before - r.takes + r.leaves in
-    cond (nat_lt before r.takes) None (cond (r.exact && nat_lt r.takes before) None (cond (nat_lt limit after) None (then (give_if r.falls (at + 1) after (slice_set ds at (Some before))) (give_to r.jump after))))
+    if nat_lt before r.takes then None
+    else if r.exact && nat_lt r.takes before then None
+    else if nat_lt limit after then None
+    else option_and_then (give_to r.jump after) (give_if r.falls (at + 1) after (slice_set ds at (Some before)))
 
 -- the locations behind, or the fault at this one
 abbrev pub afterwards : Option Depths → ℕ → (Depths → Result Depths ℕ) → Result Depths ℕ

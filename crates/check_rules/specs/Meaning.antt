@@ -1,6 +1,5 @@
 -- What it means that the depths of a method agree. Assumes nothing.
-use Rattle.std.specs.Prelude.{◌≡◌, ℕ, ◌+◌, ◌-◌, ◌<◌, ◌≤◌, true, ◌⊎◌, List, [], ◌∷◌, length, Some, None, slice_index_or}
-use Rattle.std.specs.List.{AllByRecursion}
+use Rattle.std.specs.Prelude.{◌≡◌, ℕ, ◌+◌, ◌-◌, ◌<◌, ◌≤◌, true, ◌⊎◌, List, [], ◌∷◌, length, Some, None, All, slice_index_or}
 use Rattle.check_rules.specs.declared.effect.Effect.{Effect}
 use Rattle.check_rules.specs.Depths.{Depths}
 
@@ -20,7 +19,7 @@ pub record Sound (K : ℕ) (ds : Depths) (r : Effect) (at : ℕ) : Type 0 where
 pub record Typed (K : ℕ) (rows : List Effect) (catches : List ℕ) (ds : Depths) : Type 0 where
   pub begins : slice_index_or ds 0 None ≡ Some 0
   pub sound : (at : ℕ) (r : Effect) → at < length rows → r ≡ slice_index_or rows at r → Sound K ds r at
-  pub caught : AllByRecursion (λ b. slice_index_or ds b None ≡ Some 1) catches
+  pub caught : All (λ b. slice_index_or ds b None ≡ Some 1) catches
 
 -- an instruction leads to a location: control may go on there, or branch there
 abbrev pub Leads : Effect → ℕ → ℕ → Type 0

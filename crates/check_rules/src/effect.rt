@@ -1,7 +1,5 @@
 ghost use Rattle.std.specs.Prelude.{◌≡◌, slice_index_or};
-ghost use Rattle.sheet.specs.Numbers.{flag as flagged};
-ghost use Rattle.sheet.specs.View.{no_shape};
-ghost use Rattle.check_rules.specs.Effects.{named, amount_of, is_exact, index_of, target_of, effect_of, no_signature, seen};
+ghost use Rattle.check_rules.specs.Effects.{named, amount_of, index_of, target_of, effect_of};
 ghost use Rattle.check_rules.specs.Places.{place_of, plain};
 
 use crate::around::Around;
@@ -11,7 +9,7 @@ use sheet::op::{Amount, OperandUse};
 use sheet::records::{Shape, Signature};
 
 // What an instruction does to the depth of the stack, and where control may go from it.
-#[derive(Clone, Copy)]
+#[derive(Clone, Copy, Debug, PartialEq, Eq)]
 pub struct Effect {
     pub takes: u16,
     pub leaves: u16,
@@ -22,37 +20,11 @@ pub struct Effect {
     pub jump: Option<u16>,
 }
 
-const NO_SIGNATURE: Signature = Signature {
-    arguments: 0,
-    gives: false,
-    watched: false,
-};
-
-const NO_SHAPE: Shape = Shape {
-    arguments: 0,
-    gives: false,
-    locals: 0,
-    stack_limit: 0,
-};
-
-// The library method of this number, or one without arguments and value where there is none.
-pub fn signature_at(library: &[Signature], index: u8) -> Signature
-    ensures { result ≡ slice_index_or library.now index no_signature }
+// The record of this number, or `absent` where there is none.
+pub fn record_at<T: Copy>(records: &[T], index: u8, absent: T) -> T
+    ensures { result ≡ slice_index_or records.now index absent }
 {
-    match library.get(usize::from(index)) {
-        Some(signature) => *signature,
-        None => NO_SIGNATURE,
-    }
-}
-
-// The shape of the own method of this number, or one of nothing where there is none.
-pub fn shape_at(shapes: &[Shape], index: u8) -> Shape
-    ensures { result ≡ slice_index_or shapes.now index no_shape }
-{
-    match shapes.get(usize::from(index)) {
-        Some(shape) => *shape,
-        None => NO_SHAPE,
-    }
+    records.get(usize::from(index)).copied().unwrap_or(absent)
 }
 
 // The method that an operand of this use names, as its callers see it.
@@ -61,26 +33,20 @@ fn named_method(around: Around<'_>, operand_use: OperandUse, index: u8) -> Signa
 {
     match operand_use {
         OperandUse::OwnMethod => {
-            let shape = shape_at(around.shapes, index);
+            let shape = record_at(around.shapes, index, Shape::default());
             Signature {
                 arguments: shape.arguments,
                 gives: shape.gives,
                 watched: false,
             }
         }
-        OperandUse::LibraryMethod | OperandUse::WatchedMethod => signature_at(
+        OperandUse::LibraryMethod | OperandUse::WatchedMethod => record_at(
             around.library,
             index,
+            Signature::default(),
         ),
-        _ => NO_SIGNATURE,
+        _ => Signature::default(),
     }
-}
-
-// A flag as a number of values.
-fn one_if(flag: bool) -> u16
-    ensures { result ≡ flagged flag }
-{
-    if flag { 1 } else { 0 }
 }
 
 // How many values an amount is, for a named method, in a method that gives a value or not.
@@ -90,10 +56,10 @@ fn amount(amount: Amount, method: Signature, own_gives: bool) -> u16
     match amount {
         Amount::Fixed(n) => u16::from(n),
         Amount::Arguments => u16::from(method.arguments),
-        Amount::Gives => one_if(method.gives),
-        Amount::ArgumentsAndGives => u16::from(method.arguments) + one_if(method.gives),
+        Amount::Gives => u16::from(method.gives),
+        Amount::ArgumentsAndGives => u16::from(method.arguments) + u16::from(method.gives),
         Amount::ArgumentsAndOne => u16::from(method.arguments) + 1,
-        Amount::OwnGives => one_if(own_gives),
+        Amount::OwnGives => u16::from(own_gives),
     }
 }
 
@@ -108,7 +74,7 @@ pub fn effect_of(instruction: Instruction<PlainLocation>, around: Around<'_>) ->
         takes: amount(row.takes, method, around.own.gives),
         leaves: amount(row.leaves, method, around.own.gives),
         falls: row.falls,
-        exact: is_exact(row.takes),
+        exact: row.takes == Amount::OwnGives,
         jump: target(operand),
     }
 }
@@ -130,14 +96,5 @@ fn target(operand: Operand<PlainLocation>) -> Option<u16>
     match operand {
         Operand::Location(location) => Some(location.number()),
         _ => None,
-    }
-}
-
-fn is_exact(takes: Amount) -> bool
-    ensures { result ≡ is_exact takes }
-{
-    match takes {
-        Amount::OwnGives => true,
-        _ => false,
     }
 }

@@ -41,32 +41,17 @@ impl MethodFault {
     pub fn refusal(self, method: usize) -> Refusal
         ensures { result ≡ method_refusal method self }
     {
-        match self {
-            MethodFault::NoInstruction => Refusal {
-                number: 7,
-                first: method,
-                second: 0,
-            },
-            MethodFault::TooManyCells => Refusal {
-                number: 8,
-                first: method,
-                second: 0,
-            },
-            MethodFault::Operand(location) => Refusal {
-                number: 9,
-                first: method,
-                second: location,
-            },
-            MethodFault::Handler(handler) => Refusal {
-                number: 10,
-                first: method,
-                second: handler,
-            },
-            MethodFault::Depth(location) => Refusal {
-                number: 11,
-                first: method,
-                second: location,
-            },
+        let (number, second) = match self {
+            MethodFault::NoInstruction => (7, 0),
+            MethodFault::TooManyCells => (8, 0),
+            MethodFault::Operand(location) => (9, location),
+            MethodFault::Handler(handler) => (10, handler),
+            MethodFault::Depth(location) => (11, location),
+        };
+        Refusal {
+            number,
+            first: method,
+            second,
         }
     }
 }

@@ -1,39 +1,33 @@
 -- The check of a whole sheet, method by method. Assumes nothing.
-use Rattle.std.proofs.Common.{◌≡◌, ℕ, suc, ◌+◌, ◌-◌, ◌<◌, ◌≤◌, List, [], ◌∷◌, ◌++◌, length, get_or, take, drop, set, replicate, Some, Ok, Err, Result, sym, refl, ap, ◌∙◌, subst, add-one, arith, MatchResult}
-use Rattle.std.specs.List.{slice_get}
-use Rattle.std.specs.Option.{option_map}
-use Rattle.std.proofs.lemmas.List.{append_assoc, append-nil, at_drop_more, at_drop_all, get_or-map, length-map, length_push, length-replicate, length-take-le, take-append-drop, take_more, take_more_set}
+use Rattle.std.proofs.Common.{◌≡◌, ℕ, suc, ◌+◌, ◌<◌, ◌≤◌, true, List, [], ◌∷◌, ◌++◌, map, length, get_or, take, drop, Some, Ok, Err, Result, option_map, slice_get, is_err, false, MatchResult, IsOk, OnOk, inl, inr, sym, refl, ap, ◌∙◌, arith}
+use Rattle.std.proofs.lemmas.List.{at_drop_more, get_or-map, length-map, length-take-le, take-append-drop, take_more}
 use Rattle.std.proofs.lemmas.Option.{slice_get-get_or}
+use Rattle.sheet.specs.Bounds.{in_range}
 use Rattle.sheet.specs.Maps.{and_then, raised}
 use Rattle.sheet.specs.Reading.{TextSheet}
-use Rattle.sheet.specs.View.{Method, empty_sheet, nobody, no_shape, instructions_in, handlers_in}
+use Rattle.sheet.specs.View.{nobody, no_shape, pushed, with_methods, instructions_in, handlers_in}
+use Rattle.sheet.specs.declared.instruction.Instruction.{Instruction}
+use Rattle.sheet.specs.declared.location.PlainLocation.{PlainLocation}
+use Rattle.sheet.specs.declared.records.Handler.{Handler}
+use Rattle.sheet.specs.declared.records.ReadInstruction.{ReadInstruction}
 use Rattle.sheet.specs.declared.records.Shape.{Shape}
 use Rattle.sheet.specs.declared.records.Signature.{Signature}
-use Rattle.check_rules.specs.Check.{ReadMethod, CheckedMethod, CheckedForm, checked, method_checked, methods_checked, shapes_of}
+use Rattle.sheet_laws.proofs.Grows.{within_from}
+use Rattle.sheet_store.specs.Adding.{NoRoom}
+use Rattle.check_rules.specs.Check.{ReadMethod, CheckedMethod, CheckedForm, checked, method_checked, methods_checked, method_encoded, shapes_of}
 use Rattle.check_rules.specs.Coding.{encoded}
 use Rattle.check_rules.specs.Places.{plain}
+use Rattle.check_rules.specs.declared.around.Around.{Around}
 use Rattle.check_laws.proofs.Method.{method_means}
-use Rattle.check_laws.proofs.Sheet.{each_checked, sheet_law}
-use Rattle.checking.specs.Methods.{Grown, AllChecked}
+use Rattle.check_laws.proofs.Sheet.{methods_mean, each_checked, sheet_law}
+use Rattle.checking.specs.Methods.{method_of, checked_in, MadeUpTo, AllChecked}
 use Rattle.check_rules.specs.declared.faults.CheckFault.{CheckFault}
 use Rattle.check_rules.specs.declared.faults.CheckFault.TheVariants.{Method as InMethod}
 use Rattle.check_rules.specs.declared.faults.MethodFault.{MethodFault}
 
--- the part of a list that a method takes
-pub part_long : {X : Type 0} (N n : ℕ) (d : X) → n ≤ N → length (take (n - 0) (replicate N d)) ≡ n
-part_long N n d h = let k = length-replicate N d in let z : n - 0 ≡ n = omega arith in length-take-le (n - 0) (replicate N d) (omega arith) ∙ z
+-- COUNTS
 
--- one shape more
-pub shape_next : (ms : List ReadMethod) (xs : List Shape) (i : ℕ) (s : Shape) → i < length ms → i < length xs → take i xs ≡ take i (shapes_of ms) → option_map (λ m. m.shape) (slice_get ms i) ≡ Some s → take (i + 1) (set xs i s) ≡ take (i + 1) (shapes_of ms)
-shape_next ms xs i s h k e is =
-    let n = ap (option_map (λ m. m.shape)) (slice_get-get_or ms i nobody h) in
-    let j = sym n ∙ is in
-    let same : (get_or ms i nobody).shape ≡ s = cc in
-    let l = length-map ms (λ m. m.shape) in
-    let g = get_or-map (λ m. m.shape) ms i nobody no_shape h in
-    take_more_set xs i s k ∙ ap (λ t. t ++ s ∷ []) e ∙ ap (λ y. take i (shapes_of ms) ++ y ∷ []) (sym (g ∙ same)) ∙ sym (take_more (shapes_of ms) i no_shape (omega arith))
-
--- counts up to a method, and with it
+-- what methods have, one part behind the other
 instructions_split : (ms ns : List ReadMethod) → instructions_in (ms ++ ns) ≡ instructions_in ms + instructions_in ns
 instructions_split [] ns = omega arith
 instructions_split (m ∷ ms) ns = let r = instructions_split ms ns in omega arith
@@ -42,94 +36,119 @@ handlers_split : (ms ns : List ReadMethod) → handlers_in (ms ++ ns) ≡ handle
 handlers_split [] ns = omega arith
 handlers_split (m ∷ ms) ns = let r = handlers_split ms ns in omega arith
 
-instructions_last : {I H : Type 0} (ms : List (Method I H)) (m : Method I H) → instructions_in (ms ++ m ∷ []) ≡ instructions_in ms + length m.code
-instructions_last [] m = omega arith
-instructions_last (n ∷ ms) m = let r = instructions_last ms m in omega arith
+-- a checked method has as much as the one that was read
+instructions_encoded : (cs : List CheckedMethod) → instructions_in (map method_encoded cs) ≡ instructions_in cs
+instructions_encoded [] = refl
+instructions_encoded (c ∷ cs) = let n = length-map c.code (encoded plain) in let r = instructions_encoded cs in omega arith
 
-handlers_last : {I H : Type 0} (ms : List (Method I H)) (m : Method I H) → handlers_in (ms ++ m ∷ []) ≡ handlers_in ms + length m.handlers
-handlers_last [] m = omega arith
-handlers_last (n ∷ ms) m = let r = handlers_last ms m in omega arith
+handlers_encoded : (cs : List CheckedMethod) → handlers_in (map method_encoded cs) ≡ handlers_in cs
+handlers_encoded [] = refl
+handlers_encoded (c ∷ cs) = let r = handlers_encoded cs in omega arith
 
--- what was made of the first k methods, and what the others add to it
-pub record Sofar (library : List Signature) (ms : List ReadMethod) (k : ℕ) (s : CheckedForm) : Type 0 where
-  pub same : s.library ≡ library
-  pub long : length s.methods ≡ k
-  pub instructions : instructions_in s.methods ≡ instructions_in (take k ms)
-  pub handlers : handlers_in s.methods ≡ handlers_in (take k ms)
-  pub left : methods_checked library (shapes_of ms) 0 ms ≡ and_then (methods_checked library (shapes_of ms) k (drop k ms)) (λ cs. Ok (s.methods ++ cs))
+pub code_length : (a : Around) (rs : List ReadInstruction) (xs : List (Handler PlainLocation)) (is : List (Instruction PlainLocation)) → checked_in a rs xs ≡ Ok (method_of a.own is xs) → length is ≡ length rs
+code_length a rs xs is e = sym (length-map is (encoded plain)) ∙ ap (λ m. length m.code) (method_means a.library.now a.shapes.now (method_of a.own is xs) (method_of a.own rs xs) e).0
 
-alone : {X E : Type 0} (r : Result (List X) E) → r ≡ and_then r (λ xs. Ok ([] ++ xs))
-alone (Ok xs) = refl
-alone (Err e) = refl
+-- METHODS ONE BEHIND THE OTHER
 
-pub sofar_none : (library : List Signature) (ms : List ReadMethod) (s : CheckedForm) → s ≡ record { library = library; methods = [] } → Sofar library ms 0 s
-sofar_none library ms s e = subst (Sofar library ms 0) (sym e) (record { same = refl; long = refl; instructions = refl; handlers = refl; left = alone (methods_checked library (shapes_of ms) 0 ms) })
+module _ (library : List Signature) (shapes : List Shape) where
+  regroup : (c : Result CheckedMethod CheckFault) (r s : Result (List CheckedMethod) CheckFault) → and_then c (λ m. and_then (and_then r (λ xs. and_then s (λ ys. Ok (xs ++ ys)))) (λ zs. Ok (m ∷ zs))) ≡ and_then (and_then c (λ m. and_then r (λ xs. Ok (m ∷ xs)))) (λ xs. and_then s (λ ys. Ok (xs ++ ys)))
+  regroup (Err e) r s = refl
+  regroup (Ok m) (Err e) s = refl
+  regroup (Ok m) (Ok xs) (Err e) = refl
+  regroup (Ok m) (Ok xs) (Ok ys) = refl
 
-module _ (library : List Signature) (ms : List ReadMethod) (k : ℕ) (s : CheckedForm) (so : Sofar library ms k s) (inside : k < length ms) where
-  counts : (instructions_in (take k ms) + length (get_or ms k nobody).code ≤ instructions_in ms) × (handlers_in (take k ms) + length (get_or ms k nobody).handlers ≤ handlers_in ms)
+  alone : (r : Result (List CheckedMethod) CheckFault) → r ≡ and_then r (λ ys. Ok ([] ++ ys))
+  alone (Ok ys) = refl
+  alone (Err e) = refl
+
+  -- methods from the j-th on, and behind them those from the n-th on
+  methods_split : (j n : ℕ) (xs ys : List ReadMethod) → j + length xs ≡ n → methods_checked library shapes j (xs ++ ys) ≡ and_then (methods_checked library shapes j xs) (λ cs. and_then (methods_checked library shapes n ys) (λ ds. Ok (cs ++ ds)))
+  methods_split j n [] ys e = let z : j ≡ n = omega arith in ap (λ k. methods_checked library shapes k ys) z ∙ alone (methods_checked library shapes n ys)
+  methods_split j n (x ∷ xs) ys e =
+      ap (λ r. and_then (raised (InMethod j) (method_checked library shapes x)) (λ c. and_then r (λ cs. Ok (c ∷ cs)))) (methods_split (suc j) n xs ys (omega arith))
+      ∙ regroup (raised (InMethod j) (method_checked library shapes x)) (methods_checked library shapes (suc j) xs) (methods_checked library shapes n ys)
+
+  module _ (ms : List ReadMethod) (k : ℕ) (inside : k < length ms) (cs : List CheckedMethod) (made : methods_checked library shapes 0 (take k ms) ≡ Ok cs) where
+    here : (ys : List ReadMethod) → methods_checked library shapes 0 (take k ms ++ ys) ≡ and_then (methods_checked library shapes k ys) (λ ds. Ok (cs ++ ds))
+    here ys = methods_split 0 k (take k ms) ys (let n = length-take-le k ms (omega arith) in omega arith) ∙ ap (λ r. and_then r (λ xs. and_then (methods_checked library shapes k ys) (λ ds. Ok (xs ++ ds)))) made
+
+    -- a method that is refused
+    refused : (f : MethodFault) → method_checked library shapes (get_or ms k nobody) ≡ Err f → methods_checked library shapes 0 ms ≡ Err (InMethod k f)
+    refused f e =
+        ap (methods_checked library shapes 0) (sym (take-append-drop k ms))
+        ∙ here (drop k ms)
+        ∙ at_drop_more (λ ys. and_then (methods_checked library shapes k ys) (λ ds. Ok (cs ++ ds))) ms k nobody inside
+        ∙ ap (λ r. and_then (and_then (raised (InMethod k) r) (λ c. and_then (methods_checked library shapes (suc k) (drop (k + 1) ms)) (λ xs. Ok (c ∷ xs)))) (λ ds. Ok (cs ++ ds))) e
+
+    -- one method more
+    pub one_more : (c : CheckedMethod) → method_checked library shapes (get_or ms k nobody) ≡ Ok c → methods_checked library shapes 0 (take (k + 1) ms) ≡ Ok (cs ++ c ∷ [])
+    one_more c e =
+        ap (methods_checked library shapes 0) (take_more ms k nobody inside)
+        ∙ here (get_or ms k nobody ∷ [])
+        ∙ ap (λ r. and_then (and_then (raised (InMethod k) r) (λ x. Ok (x ∷ []))) (λ ds. Ok (cs ++ ds))) e
+
+-- THE METHOD OF A NUMBER
+
+module _ (r : TextSheet) (k : ℕ) (range : in_range r ≡ true) (inside : k < length r.methods) where
+  -- with what stands before it, it has no more than all methods
+  counts : (instructions_in (take k r.methods) + length (get_or r.methods k nobody).code ≤ 2048) × (handlers_in (take k r.methods) + length (get_or r.methods k nobody).handlers ≤ 256)
   counts =
-      let e = take_more ms k nobody inside in
-      let a = ap instructions_in e ∙ instructions_last (take k ms) (get_or ms k nobody) in
-      let b = ap handlers_in e ∙ handlers_last (take k ms) (get_or ms k nobody) in
-      let c = ap instructions_in (sym (take-append-drop (k + 1) ms)) ∙ instructions_split (take (k + 1) ms) (drop (k + 1) ms) in
-      let d = ap handlers_in (sym (take-append-drop (k + 1) ms)) ∙ handlers_split (take (k + 1) ms) (drop (k + 1) ms) in
-      (omega arith, omega arith)
+      let ms = r.methods in
+      let m = get_or ms k nobody in
+      let w = within_from r range in
+      let whole : ms ≡ take k ms ++ (m ∷ drop (k + 1) ms) = sym (take-append-drop k ms) ∙ at_drop_more (λ ys. take k ms ++ ys) ms k nobody inside in
+      let a = ap instructions_in whole ∙ instructions_split (take k ms) (m ∷ drop (k + 1) ms) in
+      let b = ap handlers_in whole ∙ handlers_split (take k ms) (m ∷ drop (k + 1) ms) in
+      (omega (arith, w.instructions), omega (arith, w.handlers))
 
-  -- there is room for the next method
-  pub room : instructions_in ms ≤ 2048 → handlers_in ms ≤ 256 → (instructions_in s.methods + length (get_or ms k nobody).code ≤ 2048) × (handlers_in s.methods + length (get_or ms k nobody).handlers ≤ 256) × (length (get_or ms k nobody).code ≤ 2048)
-  room a b = let n = counts in let i = so.instructions in let h = so.handlers in (omega arith, omega arith, omega arith)
+  pub few_instructions : length (get_or r.methods k nobody).code ≤ 2048
+  few_instructions = omega (arith, counts.0)
 
-  here : (rest : List CheckedMethod → Result (List CheckedMethod) CheckFault) → and_then (methods_checked library (shapes_of ms) k (drop k ms)) rest ≡ and_then (and_then (raised (InMethod k) (method_checked library (shapes_of ms) (get_or ms k nobody))) (λ c. and_then (methods_checked library (shapes_of ms) (suc k) (drop (k + 1) ms)) (λ cs. Ok (c ∷ cs)))) rest
-  here rest = ap (λ r. and_then r rest) (at_drop_more (methods_checked library (shapes_of ms) k) ms k nobody inside)
+  -- there is a place for it behind those that were made
+  pub has_room : (s : CheckedForm) (n g : ℕ) → n ≡ length (get_or r.methods k nobody).code → g ≡ length (get_or r.methods k nobody).handlers → MadeUpTo r k s → ¬ NoRoom s.methods n g
+  has_room s n g p q made full =
+      let ms = r.methods in
+      let w = within_from r range in
+      let same = (methods_mean r.library (shapes_of ms) 0 (take k ms) s.methods made.methods).0 in
+      let long : length s.methods ≡ k = sym (length-map s.methods method_encoded) ∙ ap length same ∙ length-take-le k ms (omega arith) in
+      let code : instructions_in s.methods ≡ instructions_in (take k ms) = sym (instructions_encoded s.methods) ∙ ap instructions_in same in
+      let handlers : handlers_in s.methods ≡ handlers_in (take k ms) = sym (handlers_encoded s.methods) ∙ ap handlers_in same in
+      elim full [
+        | inl a ↦ omega (arith, w.methods)
+        | inr (inl b) ↦ omega (arith, counts.0)
+        | inr (inr d) ↦ omega (arith, counts.1)
+      ]
 
-  -- a method that is refused
-  pub refused : (f : MethodFault) → method_checked library (shapes_of ms) (get_or ms k nobody) ≡ Err f → methods_checked library (shapes_of ms) 0 ms ≡ Err (InMethod k f)
-  refused f e = so.left ∙ here (λ cs. Ok (s.methods ++ cs)) ∙ ap (λ r. and_then (and_then (raised (InMethod k) r) (λ c. and_then (methods_checked library (shapes_of ms) (suc k) (drop (k + 1) ms)) (λ cs. Ok (c ∷ cs)))) (λ cs. Ok (s.methods ++ cs))) e
+-- the same method, checked
+same_check : (xs ys : List Signature) (ss ts : List Shape) (m n : ReadMethod) → xs ≡ ys → ss ≡ ts → m ≡ n → method_checked xs ss m ≡ method_checked ys ts n
+same_check xs ys ss ts m n p q e = ap (λ l. method_checked l ss m) p ∙ ap (λ l. method_checked ys l m) q ∙ ap (method_checked ys ts) e
 
-  -- one method more
-  pub sofar_more : (t : CheckedForm) → Grown library (shapes_of ms) (get_or ms k nobody) s t → Sofar library ms (k + 1) t
-  sofar_more t g =
-      let c = g.method in
-      let e = take_more ms k nobody inside in
-      let means = (method_means library (shapes_of ms) c (get_or ms k nobody) g.is).0 in
-      let code : length c.code ≡ length (get_or ms k nobody).code = sym (length-map c.code (encoded plain)) ∙ ap (λ x. length x.code) means in
-      let handlers : length c.handlers ≡ length (get_or ms k nobody).handlers = ap (λ x. length x.handlers) means in
-      let grown : CheckedForm = record { library = s.library; methods = s.methods ++ c ∷ [] } in
-      let left : methods_checked library (shapes_of ms) 0 ms ≡ and_then (methods_checked library (shapes_of ms) (k + 1) (drop (k + 1) ms)) (λ cs. Ok ((s.methods ++ c ∷ []) ++ cs)) = so.left ∙ here (λ cs. Ok (s.methods ++ cs)) ∙ ap (λ r. and_then (and_then (raised (InMethod k) r) (λ x. and_then (methods_checked library (shapes_of ms) (suc k) (drop (k + 1) ms)) (λ cs. Ok (x ∷ cs)))) (λ cs. Ok (s.methods ++ cs))) g.is ∙ regroup s.methods c (methods_checked library (shapes_of ms) (suc k) (drop (k + 1) ms)) ∙ ap (λ j. and_then (methods_checked library (shapes_of ms) j (drop (k + 1) ms)) (λ cs. Ok ((s.methods ++ c ∷ []) ++ cs))) (sym (add-one k)) in
-      subst (Sofar library ms (k + 1)) (sym g.there) (record {
-        same = so.same;
-        long = length_push s.methods c ∙ ap (λ j. j + 1) so.long;
-        instructions = instructions_last s.methods c ∙ ap (λ j. j + length c.code) so.instructions ∙ ap (λ j. instructions_in (take k ms) + j) code ∙ sym (ap instructions_in e ∙ instructions_last (take k ms) (get_or ms k nobody));
-        handlers = handlers_last s.methods c ∙ ap (λ j. j + length c.handlers) so.handlers ∙ ap (λ j. handlers_in (take k ms) + j) handlers ∙ sym (ap handlers_in e ∙ handlers_last (take k ms) (get_or ms k nobody));
-        left = left;
-      })
-    where
-      regroup : (done : List CheckedMethod) (x : CheckedMethod) (r : Result (List CheckedMethod) CheckFault) → and_then (and_then r (λ cs. Ok (x ∷ cs))) (λ cs. Ok (done ++ cs)) ≡ and_then r (λ cs. Ok ((done ++ x ∷ []) ++ cs))
-      regroup done x (Ok cs) = ap Ok (sym (append_assoc done (x ∷ []) cs))
-      regroup done x (Err e) = refl
+-- the first method that is refused
+pub refused_at : (r : TextSheet) (k : ℕ) (s : CheckedForm) (f : MethodFault) (xs : List Signature) (ss : List Shape) (m : ReadMethod) → xs ≡ r.library → ss ≡ shapes_of r.methods → m ≡ get_or r.methods k nobody → k < length r.methods → MadeUpTo r k s → method_checked xs ss m ≡ Err f → methods_checked r.library (shapes_of r.methods) 0 r.methods ≡ Err (InMethod k f)
+refused_at r k s f xs ss m p q w inside made e = refused r.library (shapes_of r.methods) r.methods k inside s.methods made.methods f (sym (same_check xs r.library ss (shapes_of r.methods) m (get_or r.methods k nobody) p q w) ∙ e)
 
--- all methods
-pub sofar_all : (library : List Signature) (ms : List ReadMethod) (k : ℕ) (s : CheckedForm) → Sofar library ms k s → length ms ≤ k → methods_checked library (shapes_of ms) 0 ms ≡ Ok s.methods
-sofar_all library ms k s so h = so.left ∙ ap (λ r. and_then r (λ cs. Ok (s.methods ++ cs))) (at_drop_all (methods_checked library (shapes_of ms) k) ms k h) ∙ ap Ok (append-nil s.methods)
+-- a sheet with one method more
+pub made_more : (r : TextSheet) (k : ℕ) (s t : CheckedForm) (c : CheckedMethod) (xs : List Signature) (ss : List Shape) (m : ReadMethod) → xs ≡ r.library → ss ≡ shapes_of r.methods → m ≡ get_or r.methods k nobody → k < length r.methods → MadeUpTo r k s → method_checked xs ss m ≡ Ok c → t ≡ with_methods (pushed c s.methods) s → MadeUpTo r (k + 1) t
+made_more r k s t c xs ss m p q w inside made e there = record {
+  library = ap (λ x. x.library) there ∙ made.library;
+  methods = one_more r.library (shapes_of r.methods) r.methods k inside s.methods made.methods c (sym (same_check xs r.library ss (shapes_of r.methods) m (get_or r.methods k nobody) p q w) ∙ e) ∙ ap Ok (sym (ap (λ x. x.methods) there));
+}
 
--- what came of a method, with its number
-pub located_ok : (r : Result (Unit {0}) MethodFault) (x : Result (Unit {0}) CheckFault) (k : ℕ) (u : Unit {0}) (P : Type 0) (Q : MethodFault → Type 0) → MatchResult r (λ v. x ≡ Ok v) (λ e. x ≡ Err (InMethod k e)) → MatchResult r (λ _. P) Q → x ≡ Ok u → P
-located_ok (Ok v) x k u P Q l c e = c
-located_ok (Err f) x k u P Q l c e = absurd (let z : ◌≡◌ {A = ℕ} 0 1 = cc in omega arith)
-
-pub located_err : (r : Result (Unit {0}) MethodFault) (x : Result (Unit {0}) CheckFault) (k : ℕ) (e : CheckFault) (P : Type 0) (Q : MethodFault → Type 0) → MatchResult r (λ v. x ≡ Ok v) (λ f. x ≡ Err (InMethod k f)) → MatchResult r (λ _. P) Q → x ≡ Err e → (f : MethodFault) × Q f × (InMethod k f ≡ e)
-located_err (Ok v) x k e P Q l c h = absurd (let z : ◌≡◌ {A = ℕ} 0 1 = cc in omega arith)
-located_err (Err f) x k e P Q l c h = let same : InMethod k f ≡ e = cc in (f, c, same)
-
--- the same answer over equal shapes
-pub with_shapes : (library : List Signature) (xs ys : List Shape) (m : ReadMethod) (s t : CheckedForm) (r : Result (Unit {0}) MethodFault) → xs ≡ ys → MatchResult r (λ _. Grown library xs m s t) (λ e. method_checked library xs m ≡ Err e) → MatchResult r (λ _. Grown library ys m s t) (λ e. method_checked library ys m ≡ Err e)
-with_shapes library xs ys m s t r e = subst (λ zs. MatchResult r (λ _. Grown library zs m s t) (λ e. method_checked library zs m ≡ Err e)) e
+-- a call that answers `Ok`, since what it says of an `Err` is false
+pub ok_unless : {T E : Type 0} (r : Result T E) (P : T → Type 0) (Q : E → Type 0) → MatchResult r P Q → ((e : E) → ¬ Q e) → IsOk r
+ok_unless (Ok x) P Q m no_err = refl
+ok_unless (Err e) P Q m no_err = absurd (no_err e m)
 
 -- what the check leaves in a sheet passes it
-pub left_checked : (r : Result (Unit {0}) CheckFault) (read : TextSheet) (s : CheckedForm) → MatchResult r (λ _. checked read ≡ Ok s) (λ e. (checked read ≡ Err e) × (s ≡ empty_sheet)) → AllChecked s
-left_checked (Ok u) read s c = each_checked s.library (shapes_of s.methods) s.methods ((sheet_law s).means read c).2
-left_checked (Err e) read s c = subst AllChecked (sym c.1) refl
+pub left_checked : (read : TextSheet) (s : CheckedForm) (r : Result (Unit {0}) CheckFault) → OnOk r (checked read ≡ Ok s) → is_err r ≡ false → AllChecked s
+left_checked read s (Ok u) h e = each_checked s.library (shapes_of s.methods) s.methods ((sheet_law s).means read h).2
+left_checked read s (Err f) h e = cc
 
--- the same answer for an equal sheet
-pub for_equal : (r : Result (Unit {0}) CheckFault) (a b : TextSheet) (s : CheckedForm) → a ≡ b → MatchResult r (λ _. checked a ≡ Ok s) (λ e. (checked a ≡ Err e) × (s ≡ empty_sheet)) → MatchResult r (λ _. checked b ≡ Ok s) (λ e. (checked b ≡ Err e) × (s ≡ empty_sheet))
-for_equal r a b s e = subst (λ x. MatchResult r (λ _. checked x ≡ Ok s) (λ e. (checked x ≡ Err e) × (s ≡ empty_sheet))) e
+-- one shape more
+pub shape_next : (ms : List ReadMethod) (xs : List Shape) (i : ℕ) (s : Shape) → i < length ms → xs ≡ take i (shapes_of ms) → option_map (λ m. m.shape) (slice_get ms i) ≡ Some s → xs ++ s ∷ [] ≡ take (i + 1) (shapes_of ms)
+shape_next ms xs i s h e is =
+    let j = sym (ap (option_map (λ m. m.shape)) (slice_get-get_or ms i nobody h)) ∙ is in
+    let same : (get_or ms i nobody).shape ≡ s = cc in
+    let n = length-map ms (λ m. m.shape) in
+    let here = get_or-map (λ m. m.shape) ms i nobody no_shape h ∙ same in
+    ap (λ t. t ++ s ∷ []) e ∙ ap (λ y. take i (shapes_of ms) ++ y ∷ []) (sym here) ∙ sym (take_more (shapes_of ms) i no_shape (omega arith))

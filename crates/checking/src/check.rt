@@ -1,188 +1,113 @@
 // The check of a whole sheet.
-ghost use Rattle.std.specs.Prelude.{◌≡◌, ℕ, ◌+◌, ◌<◌, ◌≤◌, true, List, [], map, length, IfOk, Ok, Err, MatchResult, slice_index_or};
+ghost use Rattle.std.specs.Prelude.{◌≡◌, ◌+◌, ◌<◌, true, [], length, Ok, Err, IfErr, OnOk};
 ghost use Rattle.sheet.specs.Bounds.{in_range};
-ghost use Rattle.sheet.specs.View.{empty_sheet, method_at, instructions_in, handlers_in, no_shape};
-ghost use Rattle.sheet_store.specs.Stored.{sheet_of, methods_of};
-ghost use Rattle.check_rules.specs.Check.{CheckedForm, method_checked, methods_checked, checked, shapes_of};
-ghost use Rattle.check_rules.specs.CheckLaws.{SheetLaw};
-ghost use Rattle.checking.specs.Methods.{Grown, AllMade, AllChecked};
-ghost use Rattle.check_rules.specs.declared.faults.CheckFault.TheVariants.{Method as InMethod};
+ghost use Rattle.check_rules.specs.Check.{checked, shapes_of};
 
-use crate::checked::{CheckedSheet, CheckedStore};
-use crate::method::check_method;
+use crate::checked::CheckedStore;
+use crate::method::MethodCheck;
+use arrayvec::ArrayVec;
 use check_rules::around::Around;
 use check_rules::faults::{CheckFault, MethodFault};
 use sheet::instruction::Instruction;
-use sheet::location::PlainLocation;
 use sheet::records::Shape;
-use sheet_store::stored::StoredSheet;
-use sheet_text::read_sheet::ReadSheet;
 use sheet_text::reading::TextSheet;
-use std::alloc::{AllocError, Global};
 
-// Checks the method of this number in a lent list, and adds it to the checked ones.
-fn check_in<'a>(
+// A sheet to be checked, and the shapes of its own methods.
+#[derive(Clone, Copy)]
+struct SheetCheck<'a> {
     read: &'a TextSheet,
-    method: usize,
     shapes: &'a [Shape],
-    out: &mut CheckedStore,
-    buffer: &mut [Instruction<PlainLocation>],
-) -> Result<(), MethodFault>
-    requires few_shapes { length shapes.now ≤ 16 }
-    requires buffer_fits { length (method_at (sheet_of read.now) method).code ≡ length buffer.old }
-    requires few_instructions { length buffer.old ≤ 2048 }
-    requires own_shape { slice_index_or shapes.now method no_shape ≡ (method_at (sheet_of read.now) method).shape }
-    requires method_exists { method < length shapes.now }
-    requires method_room { length (methods_of out.old) < 16 }
-    requires code_room { instructions_in (methods_of out.old) + length buffer.old ≤ 2048 }
-    requires handler_room { handlers_in (methods_of out.old) + length (method_at (sheet_of read.now) method).handlers ≤ 256 }
-    ensures { MatchResult result (λ _. Grown (sheet_of read.now).library shapes.now (method_at (sheet_of read.now) method) (sheet_of out.old) (sheet_of out.new)) (λ e. method_checked (sheet_of read.now).library shapes.now (method_at (sheet_of read.now) method) ≡ Err e) }
-{
-    let own = shapes[method];
-    let code = read.code(method);
-    let handlers = read.handlers(method);
-    let around = Around {
-        library: read.library(),
-        shapes,
-        own,
-        count: code.len() as u16,
-    };
-    check_method(code, handlers, around, buffer)?;
-    match out.add_whole(own, buffer, handlers) {
-        Ok(()) => Ok(()),
-        Err(_) => unreachable(),
-    }
+    ghost read_in_range: { in_range read.now ≡ true },
+    ghost own_shapes: { shapes.now ≡ shapes_of read.now.methods },
 }
 
-// Checks the method of this number, and adds it to the checked ones.
-fn check_one(
-    read: &TextSheet,
-    method: usize,
-    shapes: &[Shape],
-    out: &mut CheckedStore,
-) -> Result<(), MethodFault>
-    requires few_shapes { length shapes.now ≤ 16 }
-    requires few_instructions { length (method_at (sheet_of read.now) method).code ≤ 2048 }
-    requires own_shape { slice_index_or shapes.now method no_shape ≡ (method_at (sheet_of read.now) method).shape }
-    requires method_exists { method < length shapes.now }
-    requires method_room { length (methods_of out.old) < 16 }
-    requires code_room { instructions_in (methods_of out.old) + length (method_at (sheet_of read.now) method).code ≤ 2048 }
-    requires handler_room { handlers_in (methods_of out.old) + length (method_at (sheet_of read.now) method).handlers ≤ 256 }
-    ensures { MatchResult result (λ _. Grown (sheet_of read.now).library shapes.now (method_at (sheet_of read.now) method) (sheet_of out.old) (sheet_of out.new)) (λ e. method_checked (sheet_of read.now).library shapes.now (method_at (sheet_of read.now) method) ≡ Err e) }
-{
-    let mut buffer = [Instruction::Return; 2048];
-    let count = read.code(method).len();
-    check_in(read, method, shapes, out, &mut buffer[0..count])
+impl<'a> SheetCheck<'a> {
+    ghost use Rattle.sheet.specs.View.{method_at};
+    ghost use Rattle.check_rules.specs.Check.{methods_checked};
+    ghost use Rattle.check_rules.specs.declared.faults.CheckFault.TheVariants.{Method as InMethod};
+    ghost use Rattle.checking.specs.Methods.{MadeUpTo, method_of};
+
+    // The method of this number, to be checked.
+    fn method(&self, number: usize) -> MethodCheck<'a>
+        requires { number < length self.now.read.now.methods }
+        ensures library { result.around.library.now ≡ self.now.read.now.library }
+        ensures shapes { result.around.shapes.now ≡ self.now.shapes.now }
+        ensures method { method_of result.around.own result.read.now result.handlers.now
+            ≡ method_at self.now.read.now number }
+    {
+        let read = self.read.code(number);
+        MethodCheck {
+            around: Around {
+                library: self.read.library(),
+                shapes: self.shapes,
+                own: self.shapes[number],
+                count: read.len() as u16,
+            },
+            read,
+            handlers: self.read.handlers(number),
+        }
+    }
+
+    // Checks the method of this number, and adds it to the checked ones.
+    fn check_one(&self, number: usize, out: &mut CheckedStore) -> Result<(), MethodFault>
+        requires inside { number < length self.now.read.now.methods }
+        requires made { MadeUpTo self.now.read.now number out.old }
+        ensures ok { OnOk result (MadeUpTo self.now.read.now (number + 1) out.new) }
+        ensures err { IfErr result (λ e. methods_checked self.now.read.now.library
+            (shapes_of self.now.read.now.methods) 0 self.now.read.now.methods
+            ≡ Err (InMethod number e)) }
+    {
+        let method = self.method(number);
+        // The longest method has a place for each instruction: a check takes no memory.
+        let mut code = [Instruction::Return; 2048];
+        let code = &mut code[..method.read.len()];
+        method.check(code)?;
+        out.add_whole(method.around.own, code, method.handlers)
+            .unwrap();
+        Ok(())
+    }
+
+    // Checks all methods in order, and adds them to a sheet that has none.
+    fn check_all(&self, out: &mut CheckedStore) -> Result<(), CheckFault>
+        requires { out.old ≡ record { library = self.now.read.now.library; methods = [] } }
+        ensures ok { OnOk result (MadeUpTo self.now.read.now (length self.now.read.now.methods) out.new) }
+        ensures err { IfErr result (λ e. methods_checked self.now.read.now.library
+            (shapes_of self.now.read.now.methods) 0 self.now.read.now.methods ≡ Err e) }
+    {
+        for method in 0..self.read.method_count() {
+            let checked = self.check_one(method, out);
+            checked.map_err(|fault| CheckFault::Method(method, fault))?;
+        }
+        Ok(())
+    }
 }
 
 // The shapes of all own methods of a sheet.
-fn collect_shapes(read: &TextSheet, shapes: &mut [Shape])
-    requires { length shapes.old ≡ length (methods_of read.now) }
-    ensures { shapes.new ≡ shapes_of (methods_of read.now) }
+fn own_shapes(read: &TextSheet) -> ArrayVec<Shape, 16>
+    ensures { result.items ≡ shapes_of read.now.methods }
 {
-    for method in 0..shapes.len() {
-        shapes[method] = read.shape(method).unwrap();
-    }
-}
-
-// The result of a method with the method's number.
-fn located(checked: Result<(), MethodFault>, method: usize) -> Result<(), CheckFault>
-    ensures { MatchResult checked (λ u. result ≡ Ok u) (λ e. result ≡ Err (InMethod method e)) }
-{
-    match checked {
-        Ok(()) => Ok(()),
-        Err(fault) => Err(CheckFault::Method(method, fault)),
-    }
-}
-
-// Checks all methods in order, and adds them to a sheet that has none.
-fn check_methods(
-    read: &TextSheet,
-    shapes: &[Shape],
-    out: &mut CheckedStore,
-) -> Result<(), CheckFault>
-    requires own_shapes { shapes.now ≡ shapes_of (methods_of read.now) }
-    requires fresh_out { sheet_of out.old ≡ record { library = (sheet_of read.now).library; methods = [] } }
-    requires few_methods { length (methods_of read.now) ≤ 16 }
-    requires few_instructions { instructions_in (methods_of read.now) ≤ 2048 }
-    requires few_handlers { handlers_in (methods_of read.now) ≤ 256 }
-    ensures { MatchResult result (λ _. AllMade (sheet_of read.now) (sheet_of out.new)) (λ e. methods_checked (sheet_of read.now).library (shapes_of (methods_of read.now)) 0 (methods_of read.now) ≡ Err e) }
-{
+    let mut shapes = ArrayVec::new();
     for method in 0..read.method_count() {
-        located(check_one(read, method, shapes, out), method)?;
+        shapes.push(read.shape(method).unwrap());
     }
-    Ok(())
-}
-
-// Checks all methods, with a list that is to hold their shapes.
-fn check_listed(
-    read: &TextSheet,
-    shapes: &mut [Shape],
-    out: &mut CheckedStore,
-) -> Result<(), CheckFault>
-    requires shape_each { length shapes.old ≡ length (methods_of read.now) }
-    requires fresh_out { sheet_of out.old ≡ record { library = (sheet_of read.now).library; methods = [] } }
-    requires read_in_range { in_range (sheet_of read.now) ≡ true }
-    ensures { MatchResult result (λ _. AllMade (sheet_of read.now) (sheet_of out.new)) (λ e. methods_checked (sheet_of read.now).library (shapes_of (methods_of read.now)) 0 (methods_of read.now) ≡ Err e) }
-{
-    collect_shapes(read, shapes);
-    check_methods(read, shapes, out)
+    shapes
 }
 
 // Checks a sheet in the place of what was there.
-fn check_sheet(read: &TextSheet, out: &mut CheckedStore) -> Result<(), CheckFault>
-    requires { in_range (sheet_of read.now) ≡ true }
-    ensures { MatchResult result (λ _. checked (sheet_of read.now) ≡ Ok (sheet_of out.new)) (λ e. checked (sheet_of read.now) ≡ Err e) }
+pub(crate) fn check_into(read: &TextSheet, out: &mut CheckedStore) -> Result<(), CheckFault>
+    requires { in_range read.now ≡ true }
+    ensures ok { OnOk result (checked read.now ≡ Ok out.new) }
+    ensures err { IfErr result (λ e. checked read.now ≡ Err e) }
 {
     let count = read.method_count();
     if count == 0 {
         return Err(CheckFault::NoMethod);
     }
-    if out.restart(read.library()).is_err() {
-        unreachable();
-    }
-    let mut shapes = [Shape {
-        arguments: 0,
-        locals: 0,
-        stack_limit: 0,
-        gives: false,
-    }; 16];
-    check_listed(read, &mut shapes[0..count], out)
-}
-
-// Checks a sheet; one that is refused leaves nothing.
-fn fill(read: &TextSheet, out: &mut CheckedStore) -> Result<(), CheckFault>
-    requires { in_range (sheet_of read.now) ≡ true }
-    ensures { MatchResult result (λ _. checked (sheet_of read.now) ≡ Ok (sheet_of out.new)) (λ e. (checked (sheet_of read.now) ≡ Err e) × (sheet_of out.new ≡ empty_sheet)) }
-{
-    let checked = check_sheet(read, out);
-    if checked.is_err() {
-        out.clear();
-    }
-    checked
-}
-
-impl CheckedSheet {
-    // An empty sheet, with memory for the largest: the only call that can want memory.
-    pub fn new(heap: Global) -> Result<CheckedSheet, AllocError>
-        ensures { IfOk result (λ s. sheet_of s.stored ≡ empty_sheet) }
-    {
-        let stored = StoredSheet::new(heap)?;
-        Ok(CheckedSheet { stored })
-    }
-
-    // Checks a read sheet, and holds the checked one in the place of what was there. A refused one leaves the sheet empty.
-    pub fn check(&mut self, read: &ReadSheet) -> Result<(), CheckFault>
-        ensures answer { MatchResult result (λ _. checked (sheet_of read.now.stored) ≡ Ok (sheet_of self.new.stored)) (λ e. (checked (sheet_of read.now.stored) ≡ Err e) × (sheet_of self.new.stored ≡ empty_sheet)) }
-        ensures law { (s : CheckedForm) → SheetLaw s }
-    {
-        fill(read.contents(), &mut self.stored)
-    }
-
-    // The sheet, to look at.
-    pub fn contents(&self) -> &CheckedStore
-        ensures { (result.now ≡ self.now.stored) × (AllChecked (sheet_of result.now)) }
-    {
-        &self.stored
-    }
+    out.restart(read.library()).unwrap();
+    let shapes = own_shapes(read);
+    let sheet = SheetCheck {
+        read,
+        shapes: shapes.as_slice(),
+    };
+    sheet.check_all(out)
 }

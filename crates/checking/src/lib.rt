@@ -1,6 +1,6 @@
 #![tactic(auto)]
 
-pub mod check;
+mod check;
 pub mod checked;
 mod coding;
 mod method;

@@ -1,79 +1,183 @@
 // The check of one method.
-ghost use Rattle.std.specs.Prelude.{◌≡◌, ℕ, ◌+◌, ◌<◌, ◌≤◌, true, map, length, replicate, is_ok, Some, None, Ok, Err, MatchResult, slice_set};
-ghost use Rattle.std.specs.List.{AllByRecursion};
-ghost use Rattle.check_rules.specs.Check.{decoded_from, handled_from, catches, effects, depths_of, method_checked};
-ghost use Rattle.checking.specs.Methods.{method_of};
-ghost use Rattle.check_rules.specs.Depths.{give, visited, swept, caught};
-ghost use Rattle.check_rules.specs.Effects.{effect_of};
-ghost use Rattle.check_rules.specs.Places.{place_of, plain};
+ghost use Rattle.std.specs.Prelude.{◌≡◌, ◌+◌, ◌≤◌, ◌<◌, All, length, Some, None, Ok, Err, OnOk, OnErr, IfErr, IsOk};
+ghost use Rattle.check_rules.specs.Depths.{give, visited};
 
-use crate::coding::decode;
+use crate::coding::{below, index_below, watched_below};
 use check_rules::around::Around;
 use check_rules::effect::{Effect, effect_of};
 use check_rules::faults::MethodFault;
 use check_rules::ranges::handler_suits;
-use sheet::instruction::Instruction;
+use sheet::instruction::{Instruction, Operand};
 use sheet::location::PlainLocation;
-use sheet::records::{Handler, ReadInstruction};
+use sheet::op::OperandUse;
+use sheet::records::{Handler, ReadInstruction, Shape};
 
-// Decodes all instructions of a method into a lent list; an error names the first whose operand means nothing.
-fn decode_all(
-    read: &[ReadInstruction],
-    around: Around<'_>,
-    out: &mut [Instruction<PlainLocation>],
-) -> Result<(), usize>
-    requires few_library_methods { length around.library.now ≤ 32 }
-    requires few_shapes { length around.shapes.now ≤ 16 }
-    requires out_fits { length read.now ≡ length out.old }
-    ensures { MatchResult result (λ _. decoded_from (place_of around.entry) 0 read.now ≡ Ok out.new) (λ at. decoded_from (place_of around.entry) 0 read.now ≡ Err at) }
-{
-    for (at, instruction) in read.iter().enumerate() {
-        match decode(*instruction, around) {
-            Some(decoded) => out[at] = decoded,
-            None => return Err(at),
-        }
-    }
-    Ok(())
-}
-
-// That all handlers of a method suit it; an error names the first that does not.
-fn handlers_suit(
-    handlers: &[Handler<PlainLocation>],
-    stack_limit: u8,
-    count: u16,
-) -> Result<(), usize>
-    ensures { result ≡ handled_from stack_limit count 0 handlers.now }
-{
-    for (at, handler) in handlers.iter().enumerate() {
-        if !handler_suits(*handler, stack_limit, count) {
-            return Err(at);
-        }
-    }
-    Ok(())
-}
-
+// A method to be checked: its instructions as a text has them, its handlers, and what is known
+// around them.
 #[derive(Clone, Copy)]
+pub(crate) struct MethodCheck<'a> {
+    pub(crate) around: Around<'a>,
+    pub(crate) read: &'a [ReadInstruction],
+    pub(crate) handlers: &'a [Handler<PlainLocation>],
+    ghost few_library_methods: { length around.library.now ≤ 32 },
+    ghost few_shapes: { length around.shapes.now ≤ 16 },
+    ghost few_instructions: { length read.now ≤ 2048 },
+    ghost own_count: { around.count ≡ length read.now },
+}
+
+impl MethodCheck<'_> {
+    ghost use Rattle.check_rules.specs.Check.{catches};
+    ghost use Rattle.check_rules.specs.Coding.{meaning, decoded};
+    ghost use Rattle.check_rules.specs.Depths.{caught};
+    ghost use Rattle.check_rules.specs.Places.{place_of};
+    ghost use Rattle.checking.specs.Methods.{method_of, code_checked, handlers_checked, depths_swept, depths_checked, checked_in};
+
+    // What a number means as an operand of this use.
+    fn operand(&self, operand_use: OperandUse, number: i32) -> Option<Operand<PlainLocation>>
+        ensures { result ≡ meaning (place_of self.now.around) operand_use number }
+    {
+        let around = self.around;
+        match operand_use {
+            OperandUse::Unused => (number == 0).then_some(Operand::Nothing),
+            OperandUse::Number => Some(Operand::Number(number)),
+            OperandUse::Argument => index_below(number, around.own.arguments).map(Operand::Index),
+            OperandUse::Local => index_below(number, around.own.locals).map(Operand::Index),
+            OperandUse::Location => below(number, around.count).map(|target| {
+                Operand::Location(PlainLocation::new(target))
+            }),
+            OperandUse::OwnMethod => index_below(number, around.shapes.len() as u8).map(
+                Operand::Index,
+            ),
+            OperandUse::LibraryMethod => index_below(number, around.library.len() as u8).map(
+                Operand::Index,
+            ),
+            OperandUse::WatchedMethod => watched_below(number, around.library).map(Operand::Index),
+        }
+    }
+
+    // The instruction that a read one is, if its operand means something.
+    fn decode(&self, read: ReadInstruction) -> Option<Instruction<PlainLocation>>
+        ensures { result ≡ decoded (place_of self.now.around) read }
+    {
+        let operand = self.operand(read.op.row().operand, read.operand)?;
+        Instruction::of(read.op, operand)
+    }
+
+    // Decodes all instructions into a lent list.
+    fn decode_all(&self, out: &mut [Instruction<PlainLocation>]) -> Result<(), MethodFault>
+        requires { length self.now.read.now ≡ length out.old }
+        ensures ok { OnOk result (code_checked self.now.around self.now.read.now ≡ Ok out.new) }
+        ensures err { IfErr result (λ e. code_checked self.now.around self.now.read.now ≡ Err e) }
+    {
+        // An index into `out`: behind a `zip` with `iter_mut` nothing is known of what it holds.
+        for (at, read) in self.read.iter().enumerate() {
+            out[at] = self.decode(*read).ok_or(MethodFault::Operand(at))?;
+        }
+        Ok(())
+    }
+
+    // That all handlers suit the method.
+    fn handlers_suit(&self) -> Result<(), MethodFault>
+        ensures { result ≡ handlers_checked self.now.around self.now.handlers.now }
+    {
+        // A loop: `position` takes a second function and a lemma to say as much.
+        for (at, handler) in self.handlers.iter().enumerate() {
+            if !handler_suits(*handler, self.around.own.stack_limit, self.around.count) {
+                return Err(MethodFault::Handler(at));
+            }
+        }
+        Ok(())
+    }
+
+    // Takes all locations upward.
+    fn sweep(
+        &self,
+        code: &[Instruction<PlainLocation>],
+        depths: &mut [Option<u16>],
+    ) -> Result<(), MethodFault>
+        requires { length code.now ≡ length depths.old }
+        ensures ok { OnOk result (depths_swept self.now.around code.now depths.old ≡ Ok depths.new) }
+        ensures err { IfErr result (λ e. depths_swept self.now.around code.now depths.old ≡ Err e) }
+    {
+        for (at, instruction) in code.iter().enumerate() {
+            let effect = effect_of(*instruction, self.around);
+            let visited = visit(effect, at, self.around.own.stack_limit, depths);
+            visited.map_err(|_| MethodFault::Depth(at))?;
+        }
+        Ok(())
+    }
+
+    // Gives each catch begin depth 1.
+    fn mark_catches(&self, depths: &mut [Option<u16>])
+        requires { All (λ b. b < length depths.old) (catches self.now.handlers.now) }
+        ensures { depths.new ≡ caught (catches self.now.handlers.now) depths.old }
+    {
+        for handler in self.handlers {
+            let begin = usize::from(handler.catch_begin.number());
+            depths[begin] = Some(1);
+        }
+    }
+
+    // That the depths of the method agree.
+    fn depths_agree(&self, code: &[Instruction<PlainLocation>]) -> Result<(), MethodFault>
+        requires few_instructions { length code.now ≤ 2048 }
+        requires catches_inside { All (λ b. b < length code.now) (catches self.now.handlers.now) }
+        ensures ok { OnOk result
+            (IsOk (depths_checked self.now.around code.now self.now.handlers.now)) }
+        ensures err { IfErr result
+            (λ e. depths_checked self.now.around code.now self.now.handlers.now ≡ Err e) }
+    {
+        // A method of the largest length has a place for each depth: a check takes no memory.
+        let mut depths = [None; 2048];
+        depths[0] = Some(0);
+        let depths = &mut depths[..code.len()];
+        self.mark_catches(depths);
+        self.sweep(code, depths)
+    }
+
+    // Checks the method and leaves its instructions in a lent list.
+    pub(crate) fn check(&self, out: &mut [Instruction<PlainLocation>]) -> Result<(), MethodFault>
+        requires { length self.now.read.now ≡ length out.old }
+        ensures ok { OnOk result (checked_in self.now.around self.now.read.now self.now.handlers.now
+            ≡ Ok (method_of self.now.around.own out.new self.now.handlers.now)) }
+        ensures err { IfErr result
+            (λ e. checked_in self.now.around self.now.read.now self.now.handlers.now ≡ Err e) }
+    {
+        if self.read.is_empty() {
+            return Err(MethodFault::NoInstruction);
+        }
+        if cells(self.around.own) > 256 {
+            return Err(MethodFault::TooManyCells);
+        }
+        self.decode_all(out)?;
+        self.handlers_suit()?;
+        self.depths_agree(out)
+    }
+}
+
+// How many cells a call of a method of this shape has: its arguments, its locals and its stack.
+fn cells(shape: Shape) -> u16
+    ensures { result ≡ shape.arguments + shape.locals + shape.stack_limit }
+{
+    u16::from(shape.arguments) + u16::from(shape.locals) + u16::from(shape.stack_limit)
+}
+
+// The depths of a method do not agree.
+#[derive(Clone, Copy, Debug, PartialEq, Eq)]
 struct DepthFails;
 
 // Leads to a location with a depth: it gets that depth, or must have it.
 fn lead_to(depths: &mut [Option<u16>], next: usize, depth: u16) -> Result<(), DepthFails>
-    ensures { MatchResult result (λ _. give next depth depths.old ≡ Some depths.new) (λ _. give next depth depths.old ≡ None) }
+    ensures ok { OnOk result (give next depth depths.old ≡ Some depths.new) }
+    ensures err { OnErr result (give next depth depths.old ≡ None) }
 {
     if next >= depths.len() {
         return Err(DepthFails);
     }
-    match depths[next] {
-        None => {
-            depths[next] = Some(depth);
-            Ok(())
-        }
-        Some(old) => {
-            if old == depth {
-                Ok(())
-            } else {
-                Err(DepthFails)
-            }
-        }
+    if *depths[next].get_or_insert(depth) == depth {
+        Ok(())
+    } else {
+        Err(DepthFails)
     }
 }
 
@@ -85,10 +189,10 @@ fn visit(
     depths: &mut [Option<u16>],
 ) -> Result<(), DepthFails>
     requires { at < length depths.old }
-    ensures { MatchResult result (λ _. visited effect at stack_limit depths.old ≡ Some depths.new) (λ _. visited effect at stack_limit depths.old ≡ None) }
+    ensures ok { OnOk result (visited effect at stack_limit depths.old ≡ Some depths.new) }
+    ensures err { OnErr result (visited effect at stack_limit depths.old ≡ None) }
 {
-    let before = depths[at].unwrap_or(0);
-    depths[at] = Some(before);
+    let before = *depths[at].get_or_insert(0);
     if before < effect.takes {
         return Err(DepthFails);
     }
@@ -103,105 +207,8 @@ fn visit(
     if effect.falls {
         lead_to(depths, at + 1, after)?;
     }
-    match effect.jump {
-        Some(target) => lead_to(depths, usize::from(target), after),
-        None => Ok(()),
-    }
-}
-
-// Takes all locations upward; an error names the first at which the depths fail.
-fn sweep(
-    code: &[Instruction<PlainLocation>],
-    around: Around<'_>,
-    depths: &mut [Option<u16>],
-) -> Result<(), usize>
-    requires { length code.now ≡ length depths.old }
-    ensures { MatchResult result (λ _. swept (effects (place_of around.entry) code.now) 0 around.entry.own.stack_limit depths.old ≡ Ok depths.new) (λ at. swept (effects (place_of around.entry) code.now) 0 around.entry.own.stack_limit depths.old ≡ Err at) }
-{
-    for (at, instruction) in code.iter().enumerate() {
-        if let Err(_) = visit(
-            effect_of(*instruction, around),
-            at,
-            around.own.stack_limit,
-            depths,
-        ) {
-            return Err(at);
-        }
-    }
-    Ok(())
-}
-
-// Gives each catch begin depth 1.
-fn mark_catches(handlers: &[Handler<PlainLocation>], depths: &mut [Option<u16>])
-    requires { AllByRecursion (λ b. b < length depths.old) (catches handlers.now) }
-    ensures { depths.new ≡ caught (catches handlers.now) depths.old }
-{
-    for handler in handlers {
-        let begin = usize::from(handler.catch_begin.number());
-        depths[begin] = Some(1);
-    }
-}
-
-// Finds the depths of a method, in a list that has 0 at location 0 and nothing else; an error names the first location that fails.
-fn find_depths(
-    code: &[Instruction<PlainLocation>],
-    handlers: &[Handler<PlainLocation>],
-    around: Around<'_>,
-    depths: &mut [Option<u16>],
-) -> Result<(), usize>
-    requires depth_each { length code.now ≡ length depths.old }
-    requires start_depths { depths.old ≡ slice_set (replicate (length code.now) None) 0 (Some 0) }
-    requires catches_inside { AllByRecursion (λ b. b < length depths.old) (catches handlers.now) }
-    ensures { MatchResult result (λ _. depths_of (place_of around.entry) code.now handlers.now ≡ Ok depths.new) (λ at. depths_of (place_of around.entry) code.now handlers.now ≡ Err at) }
-{
-    mark_catches(handlers, depths);
-    sweep(code, around, depths)
-}
-
-// Whether the depths of a method agree; an error names the first location at which they do not.
-fn depths_agree(
-    code: &[Instruction<PlainLocation>],
-    handlers: &[Handler<PlainLocation>],
-    around: Around<'_>,
-) -> Result<(), usize>
-    requires few_instructions { length code.now ≤ 2048 }
-    requires catches_inside { AllByRecursion (λ b. b < length code.now) (catches handlers.now) }
-    ensures { MatchResult result (λ _. is_ok (depths_of (place_of around.entry) code.now handlers.now) ≡ true) (λ at. depths_of (place_of around.entry) code.now handlers.now ≡ Err at) }
-{
-    let mut depths = [None; 2048];
-    depths[0] = Some(0);
-    find_depths(code, handlers, around, &mut depths[0..code.len()])
-}
-
-// Checks one method and leaves its instructions in a lent list.
-pub(crate) fn check_method(
-    read: &[ReadInstruction],
-    handlers: &[Handler<PlainLocation>],
-    around: Around<'_>,
-    out: &mut [Instruction<PlainLocation>],
-) -> Result<(), MethodFault>
-    requires few_library_methods { length around.library.now ≤ 32 }
-    requires few_shapes { length around.shapes.now ≤ 16 }
-    requires out_fits { length read.now ≡ length out.old }
-    requires few_instructions { length read.now ≤ 2048 }
-    requires own_count { around.count ≡ length read.now }
-    ensures { MatchResult result (λ _. method_checked around.entry.library.now around.entry.shapes.now (method_of around.entry.own read.now handlers.now) ≡ Ok (method_of around.entry.own out.new handlers.now)) (λ e. method_checked around.entry.library.now around.entry.shapes.now (method_of around.entry.own read.now handlers.now) ≡ Err e) }
-{
-    let own = around.own;
-    if read.is_empty() {
-        return Err(MethodFault::NoInstruction);
-    }
-    if u16::from(own.arguments) + u16::from(own.locals) + u16::from(own.stack_limit) > 256 {
-        return Err(MethodFault::TooManyCells);
-    }
-    if let Err(at) = decode_all(read, around, out) {
-        return Err(MethodFault::Operand(at));
-    }
-    if let Err(at) = handlers_suit(handlers, own.stack_limit, around.count) {
-        return Err(MethodFault::Handler(at));
-    }
-    if let Err(at) = depths_agree(out, handlers, around) {
-        return Err(MethodFault::Depth(at));
+    if let Some(target) = effect.jump {
+        lead_to(depths, usize::from(target), after)?;
     }
     Ok(())
 }

@@ -1,3 +1,4 @@
 pub mod Tiles
 pub mod Stored
 pub mod Adding
+pub mod Fields

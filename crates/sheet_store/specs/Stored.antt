@@ -1,46 +1,22 @@
 -- The sheet that a stored one holds. Assumes nothing.
-use Rattle.std.specs.Prelude.{ℕ, zero, suc, List, [], ◌∷◌, drop, vec_items}
+use Rattle.std.specs.Prelude.{List, [], ◌∷◌, length}
 use Rattle.std.specs.List.{between}
-use Rattle.sheet.specs.View.{Method, Sheet, no_shape}
+use Rattle.sheet.specs.View.{Method, Sheet}
+use Rattle.sheet_store.specs.Tiles.{begin, start}
 use Rattle.sheet_store.specs.declared.stored.Header.{Header}
-use Rattle.sheet_store.specs.declared.stored.StoredSheet.{StoredSheet}
+use Rattle.sheet_store.specs.declared.stored.Part.{Part}
+use Rattle.sheet_store.specs.declared.stored.Part.TheVariants.{Code, Handlers}
+use Rattle.sheet.specs.declared.records.Signature.{Signature}
 
--- the method of the last header: what stands behind its beginnings
-abbrev pub rest : {I H : Type 0} → Header → List I → List H → Method I H
-rest h c x = record { shape = h.shape; code = drop h.first c; handlers = drop h.guard x }
-
--- the method of a header that another follows: what stands up to the beginnings of that
-abbrev pub upto : {I H : Type 0} → Header → Header → List I → List H → Method I H
-upto h k c x = record { shape = h.shape; code = between h.first k.first c; handlers = between h.guard k.guard x }
+-- the part of a list that is a method's: from where it begins to where the first of the following methods' begins
+abbrev pub part : {X : Type 0} → Part → Header → List Header → List X → List X
+part p h hs xs = between (begin p h) (start p hs (length xs)) xs
 
 -- the methods of some headers
 abbrev pub cut : {I H : Type 0} → List Header → List I → List H → List (Method I H)
 cut [] c x = []
-cut (h ∷ []) c x = rest h c x ∷ []
-cut (h ∷ (k ∷ hs)) c x = upto h k c x ∷ cut (k ∷ hs) c x
+cut (h ∷ hs) c x = record { shape = h.shape; code = part Code h hs c; handlers = part Handlers h hs x } ∷ cut hs c x
 
--- the own methods of a stored sheet
-abbrev pub methods_of : {I H : Type 0} → StoredSheet I H → List (Method I H)
-methods_of s = cut (vec_items s.methods) (vec_items s.code) (vec_items s.handlers)
-
--- the sheet that is stored
-abbrev pub sheet_of : {I H : Type 0} → StoredSheet I H → Sheet I H
-sheet_of s = record { library = vec_items s.library; methods = methods_of s }
-
--- the header of the last method
-abbrev pub last_of : List Header → Header
-last_of [] = record { shape = no_shape; first = 0; guard = 0 }
-last_of (h ∷ []) = h
-last_of (h ∷ (k ∷ hs)) = last_of (k ∷ hs)
-
--- where the code of a method begins, n behind the last
-abbrev pub code_begin : List Header → ℕ → ℕ → ℕ
-code_begin [] k n = n
-code_begin (h ∷ hs) zero n = h.first
-code_begin (h ∷ hs) (suc k) n = code_begin hs k n
-
--- where the handlers of a method begin, n behind the last
-abbrev pub handler_begin : List Header → ℕ → ℕ → ℕ
-handler_begin [] k n = n
-handler_begin (h ∷ hs) zero n = h.guard
-handler_begin (h ∷ hs) (suc k) n = handler_begin hs k n
+-- the sheet that is stored as a library, headers, and the instructions and handlers of all methods
+abbrev pub sheet_in : {I H : Type 0} → List Signature → List Header → List I → List H → Sheet I H
+sheet_in library headers c x = record { library = library; methods = cut headers c x }

@@ -1,19 +1,25 @@
--- How the methods of a stored sheet share its two lists. Assumes nothing.
-use Rattle.std.specs.Prelude.{ℕ, Bool, true, ◌&&◌, List, [], ◌∷◌, nat_le}
+-- How the methods of a stored sheet share a list. Assumes nothing.
+use Rattle.std.specs.Prelude.{◌≡◌, ℕ, ◌≤◌, List, [], ◌∷◌}
 use Rattle.sheet_store.specs.declared.stored.Header.{Header}
+use Rattle.sheet_store.specs.declared.stored.Part.{Part}
+use Rattle.sheet_store.specs.declared.stored.Part.TheVariants.{Code, Handlers}
 
--- where the code of the first method begins, or n without one
-abbrev pub code_start : List Header → ℕ → ℕ
-code_start [] n = n
-code_start (h ∷ hs) n = h.first
+-- where the part of a method begins
+abbrev pub begin : Part → Header → ℕ
+begin Code h = h.code_begin
+begin Handlers h = h.handlers_begin
 
--- where the handlers of the first method begin, or n without one
-abbrev pub handler_start : List Header → ℕ → ℕ
-handler_start [] n = n
-handler_start (h ∷ hs) n = h.guard
+-- where the part of the first of some methods begins, or n without one
+abbrev pub start : Part → List Header → ℕ → ℕ
+start p [] n = n
+start p (h ∷ hs) n = begin p h
 
--- each method begins no lower than the one before it, within n instructions and g handlers
-abbrev pub ordered : List Header → ℕ → ℕ → Bool
-ordered [] n g = true
-ordered (h ∷ []) n g = nat_le h.first n && nat_le h.guard g
-ordered (h ∷ (k ∷ hs)) n g = (nat_le h.first k.first && nat_le h.guard k.guard) && ordered (k ∷ hs) n g
+-- each method begins no lower than the one before it, within n
+abbrev pub Ordered : Part → List Header → ℕ → Type 0
+Ordered p [] n = Unit {0}
+Ordered p (h ∷ hs) n = (begin p h ≤ start p hs n) × Ordered p hs n
+
+-- the methods share a list of n: in order, and from its beginning on
+pub record IsTiled (p : Part) (headers : List Header) (n : ℕ) : Type 0 where
+  pub in_order : Ordered p headers n
+  pub from_zero : start p headers n ≡ 0

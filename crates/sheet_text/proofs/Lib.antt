@@ -1,0 +1,3 @@
+pub mod Puts
+pub mod LinesLemmas
+pub mod Unwraps

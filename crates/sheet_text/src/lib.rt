@@ -2,7 +2,8 @@
 
 mod line;
 pub mod lines;
-mod number;
+pub mod number;
+mod output;
 pub mod read_sheet;
 pub mod reading;
 mod writing;

@@ -1,5 +1,5 @@
 // One line of a text: its letter, its fields and its line feed.
-ghost use Rattle.std.specs.Prelude.{◌≡◌, ◌+◌, ◌≤◌, [], ◌∷◌, length, take, drop, pos, Ok, Err, MatchResult};
+ghost use Rattle.std.specs.Prelude.{◌≡◌, ◌≤◌, length, take, drop, pos, Ok, Err, OnOk, IfOk, IfErr};
 ghost use Rattle.sheet.specs.Columns.{field_read};
 ghost use Rattle.sheet.specs.Fields.{width_of, widths, fields_of, lowest, highest};
 ghost use Rattle.sheet.specs.Lines.{parted, fields_read, line_read};
@@ -11,32 +11,72 @@ use sheet::fields::{Field, Letter};
 use sheet::location::PlainLocation;
 use sheet::op::Op;
 use sheet::records::{Handler, Kind, Line, ReadInstruction, Shape, Signature};
+use std::marker::Model;
 
 // The letter of a line and what stands between it and the line feed.
 fn parts(line: &[u8]) -> Result<(Letter, &[u8]), FormFault>
-    ensures { MatchResult result (λ p. parted line.now ≡ Ok (p.0, p.1.now)) (λ e. parted line.now ≡ Err e) }
+    ensures ok { IfOk result (λ p. parted line.now ≡ Ok (p.0, p.1.now)) }
+    ensures err { IfErr result (λ e. parted line.now ≡ Err e) }
 {
-    let [first, rest @ ..] = line else {
-        return Err(FormFault::UnknownLetter);
-    };
-    let letter = Letter::try_from(*first)?;
-    let [fields @ .., b'\n'] = rest else {
-        return Err(FormFault::NoLineFeed);
-    };
-    if fields.len() != letter.columns() {
-        return Err(FormFault::WrongLength);
+    match line {
+        [letter, fields @ .., b'\n'] => {
+            let letter = Letter::try_from(*letter)?;
+            if fields.len() != letter.columns() {
+                return Err(FormFault::WrongLength);
+            }
+            Ok((letter, fields))
+        }
+        [letter, ..] => {
+            Letter::try_from(*letter)?;
+            Err(FormFault::NoLineFeed)
+        }
+        [] => Err(FormFault::UnknownLetter),
     }
-    Ok((letter, fields))
 }
 
-// The number in the first field, and the columns behind it.
-fn next(columns: &[u8], field: Field) -> Result<(i32, &[u8]), FieldFault>
-    requires { width_of field ≤ length columns.now }
-    ensures { MatchResult result (λ p. (field_read field (take (width_of field) columns.now) ≡ Ok p.0) × (p.1.now ≡ drop (width_of field) columns.now) × (length p.1.now + width_of field ≡ length columns.now)) (λ e. field_read field (take (width_of field) columns.now) ≡ Err e) }
-{
-    let (column, rest) = columns.split_at(field.width());
-    let number = judge(field, read_column(column))?;
-    Ok((number, rest))
+// The columns of a line that are still to be read. Contracts see their bytes.
+#[derive(Drop)]
+struct Columns<'a> {
+    rest: &'a [u8],
+}
+
+impl<'a> Model for Columns<'a> {
+    ghost use Rattle.std.specs.Prelude.{ℕ, List};
+
+    ghost Value = { List ℕ };
+
+    ghost view = { λ c. c.rest.now };
+}
+
+impl<'a> Columns<'a> {
+    fn new(fields: &'a [u8]) -> Columns<'a>
+        ensures { result ≡ fields.now }
+    {
+        Columns { rest: fields }
+    }
+
+    // The number in the next field.
+    fn next(&mut self, field: Field) -> Result<i32, FieldFault>
+        requires { width_of field ≤ length self.old }
+        ensures number { field_read field (take (width_of field) self.old) ≡ result }
+        ensures rest { self.new ≡ drop (width_of field) self.old }
+    {
+        let (column, rest) = self.rest.split_at(field.width());
+        self.rest = rest;
+        judge(field, read_column(column))
+    }
+
+    // The location in the next field.
+    fn location(&mut self, field: Field) -> Result<PlainLocation, FieldFault>
+        requires enough_columns { width_of field ≤ length self.old }
+        requires holds_location { (lowest field ≡ pos 0) × (highest field ≡ pos 2048) }
+        ensures ok { IfOk result (λ l. field_read field (take (width_of field) self.old) ≡ Ok (pos l.number)) }
+        ensures err { IfErr result (λ e. field_read field (take (width_of field) self.old) ≡ Err e) }
+        ensures rest { self.new ≡ drop (width_of field) self.old }
+    {
+        let number = self.next(field)?;
+        Ok(PlainLocation::new(number as u16))
+    }
 }
 
 // The library method that the fields of an L line declare.
@@ -44,9 +84,10 @@ fn read_signature(fields: &[u8]) -> Result<Line, FieldFault>
     requires { length fields.now ≡ 18 }
     ensures { result ≡ fields_read L fields.now }
 {
-    let (arguments, rest) = next(fields, Field::Arguments)?;
-    let (gives, rest) = next(rest, Field::Gives)?;
-    let (watched, _) = next(rest, Field::Watched)?;
+    let mut columns = Columns::new(fields);
+    let arguments = columns.next(Field::Arguments)?;
+    let gives = columns.next(Field::Gives)?;
+    let watched = columns.next(Field::Watched)?;
     Ok(Line::Library(Signature {
         arguments: arguments as u8,
         gives: gives == 1,
@@ -59,10 +100,11 @@ fn read_shape(fields: &[u8]) -> Result<Line, FieldFault>
     requires { length fields.now ≡ 24 }
     ensures { result ≡ fields_read M fields.now }
 {
-    let (arguments, rest) = next(fields, Field::Arguments)?;
-    let (gives, rest) = next(rest, Field::Gives)?;
-    let (locals, rest) = next(rest, Field::Locals)?;
-    let (stack_limit, _) = next(rest, Field::StackLimit)?;
+    let mut columns = Columns::new(fields);
+    let arguments = columns.next(Field::Arguments)?;
+    let gives = columns.next(Field::Gives)?;
+    let locals = columns.next(Field::Locals)?;
+    let stack_limit = columns.next(Field::StackLimit)?;
     Ok(Line::Method(Shape {
         arguments: arguments as u8,
         gives: gives == 1,
@@ -76,21 +118,12 @@ fn read_instruction(fields: &[u8]) -> Result<Line, FieldFault>
     requires { length fields.now ≡ 18 }
     ensures { result ≡ fields_read I fields.now }
 {
-    let (number, rest) = next(fields, Field::Op)?;
-    let (operand, _) = next(rest, Field::Operand)?;
+    let mut columns = Columns::new(fields);
+    let number = columns.next(Field::Op)?;
+    let operand = columns.next(Field::Operand)?;
     // The field holds 1 to 18, and each of these has its op.
     let op = Op::try_from(number as u8).unwrap_or(Op::LoadConstant);
     Ok(Line::Instruction(ReadInstruction { op, operand }))
-}
-
-// The location in the first field, and the columns behind it.
-fn next_location(columns: &[u8], field: Field) -> Result<(PlainLocation, &[u8]), FieldFault>
-    requires enough_columns { width_of field ≤ length columns.now }
-    requires holds_location { (lowest field ≡ pos 0) × (highest field ≡ pos 2048) }
-    ensures { MatchResult result (λ p. (field_read field (take (width_of field) columns.now) ≡ Ok (pos p.0.number)) × (p.1.now ≡ drop (width_of field) columns.now) × (length p.1.now + width_of field ≡ length columns.now)) (λ e. field_read field (take (width_of field) columns.now) ≡ Err e) }
-{
-    let (number, rest) = next(columns, field)?;
-    Ok((PlainLocation::new(number as u16), rest))
 }
 
 // The handler of an X line.
@@ -98,11 +131,12 @@ fn read_handler(fields: &[u8]) -> Result<Line, FieldFault>
     requires { length fields.now ≡ 30 }
     ensures { result ≡ fields_read X fields.now }
 {
-    let (try_begin, rest) = next_location(fields, Field::TryBegin)?;
-    let (try_end, rest) = next_location(rest, Field::TryEnd)?;
-    let (number, rest) = next(rest, Field::Kind)?;
-    let (catch_begin, rest) = next_location(rest, Field::CatchBegin)?;
-    let (catch_end, _) = next_location(rest, Field::CatchEnd)?;
+    let mut columns = Columns::new(fields);
+    let try_begin = columns.location(Field::TryBegin)?;
+    let try_end = columns.location(Field::TryEnd)?;
+    let number = columns.next(Field::Kind)?;
+    let catch_begin = columns.location(Field::CatchBegin)?;
+    let catch_end = columns.location(Field::CatchEnd)?;
     // The field holds 1 or 2, and each of these has its kind.
     let kind = Kind::try_from(number as u8).unwrap_or(Kind::Every);
     Ok(Line::Handler(Handler {

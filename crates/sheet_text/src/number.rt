@@ -15,10 +15,8 @@ fn digits_value(digits: &[u8]) -> Option<u64>
 {
     let mut value = 0u64;
     for b in digits {
-        if *b < b'0' || b'9' < *b {
-            return None;
-        }
-        value = value * 10 + u64::from(*b - b'0');
+        let digit = char::from(*b).to_digit(10)?;
+        value = value * 10 + u64::from(digit);
     }
     Some(value)
 }
@@ -36,7 +34,7 @@ fn read_digits(digits: &[u8]) -> Option<u64>
 }
 
 // The bytes behind the blanks that stand in front.
-fn unpadded(column: &[u8]) -> &[u8]
+pub fn unpadded(column: &[u8]) -> &[u8]
     ensures parts { column.now ≡ replicate (length column.now - length result.now) 32 ++ result.now }
     ensures first { slice_index result.now 0 ≢ 32 }
 {
@@ -75,9 +73,7 @@ pub(crate) fn read_column(column: &[u8]) -> Option<i64>
 pub(crate) fn judge(field: Field, number: Option<i64>) -> Result<i32, FieldFault>
     ensures { result ≡ judged field number }
 {
-    let Some(number) = number else {
-        return Err(FieldFault::NoNumber(field));
-    };
+    let number = number.ok_or(FieldFault::NoNumber(field))?;
     if number < i64::from(field.least()) || i64::from(field.greatest()) < number {
         return Err(FieldFault::OutOfRange(field));
     }

@@ -3,7 +3,6 @@ ghost use Rattle.std.specs.Prelude.{◌≡◌, IfOk, string_bytes, codes, MatchR
 ghost use Rattle.sheet.specs.Reading.{reading};
 ghost use Rattle.sheet.specs.Refusals.{sheet_refusal};
 ghost use Rattle.sheet.specs.View.{empty_sheet};
-ghost use Rattle.sheet_store.specs.Stored.{sheet_of};
 ghost use Rattle.check_rules.specs.Check.{checked as check};
 ghost use Rattle.check_rules.specs.CheckRefusals.{check_refusal};
 ghost use Rattle.vetting.specs.Report.{refusal_line, opening, check_opening, CheckLeft, Begins};
@@ -30,7 +29,7 @@ pub fn report(
     text: &[u8],
 ) -> Result<String, AllocError>
     ensures begins { IfOk result (λ s. Begins (opening (reading text.now)) (string_bytes s)) }
-    ensures after { MatchResult (reading text.now) (λ s. (sheet_of sheet.new.stored ≡ s) × CheckLeft s (sheet_of checked.new.stored)) (λ _. (sheet_of sheet.new.stored ≡ empty_sheet) × (checked.new ≡ checked.old)) }
+    ensures after { MatchResult (reading text.now) (λ s. (sheet.new ≡ s) × CheckLeft s checked.new) (λ _. (sheet.new ≡ empty_sheet) × (checked.new ≡ checked.old)) }
 {
     match sheet.read(text) {
         Ok(()) => judged(heap, sheet, checked),
@@ -40,8 +39,8 @@ pub fn report(
 
 // The report on a sheet that reads.
 fn judged(heap: Global, sheet: &ReadSheet, checked: &mut CheckedSheet) -> Result<String, AllocError>
-    ensures begins { IfOk result (λ s. Begins (check_opening (check (sheet_of sheet.now.stored))) (string_bytes s)) }
-    ensures after { CheckLeft (sheet_of sheet.now.stored) (sheet_of checked.new.stored) }
+    ensures begins { IfOk result (λ s. Begins (check_opening (check sheet.now)) (string_bytes s)) }
+    ensures after { CheckLeft sheet.now checked.new }
 {
     match checked.check(sheet) {
         Ok(()) => accepted(heap, sheet),

@@ -1,11 +1,11 @@
 use Rattle.std.proofs.Common.{◌≡◌, ◌+◌, ◌≤◌, length}
-use Rattle.sheet.specs.Reading.{reading, lines_read, lines}
-use Rattle.sheet_store.specs.Stored.{sheet_of}
+use Rattle.sheet.specs.Reading.{reading, lines_read}
 use Rattle.sheet_text.proofs.reading.take_lines.Given as goal
 
--- what is left of the text, behind what was taken, gives the answer
-abbrev pub invariant-loop-rest : goal.invariant-loop-rest
-invariant-loop-rest l = (reading l.text ≡ lines_read l.number (sheet_of l.sheet) (lines l.rest)) × (l.number + length l.rest ≤ length l.text)
-
-abbrev pub decreases-loop-rest : goal.decreases-loop-rest
-decreases-loop-rest l = length l.rest
+-- the lines that are still to come, behind what was taken, give the answer
+abbrev pub invariant-loop-number : goal.invariant-loop-number
+invariant-loop-number l =
+    (goal.iterator-loop-number).can_next l.number-iterator
+    × (goal.iterator-loop-number).is_finite l.number-iterator
+    × (reading l.text ≡ lines_read l.number-iterator.count l.sheet l.number-iterator.iter)
+    × (l.number-iterator.count + length l.number-iterator.iter ≤ length l.text)

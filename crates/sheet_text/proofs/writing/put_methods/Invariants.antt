@@ -1,9 +1,9 @@
-use Rattle.std.proofs.Common.{◌≡◌, ◌+◌, length, take}
+use Rattle.std.proofs.Common.{take}
 use Rattle.std.specs.List.{flat_map}
-use Rattle.sheet.specs.Text.{placed, method_text}
-use Rattle.sheet_store.specs.Stored.{methods_of}
+use Rattle.sheet.specs.Text.{method_text}
+use Rattle.sheet_text.specs.Output.{Put}
 use Rattle.sheet_text.proofs.writing.put_methods.Given as goal
 
--- the methods so far are written, and the next goes behind them
+-- the methods so far are put
 abbrev pub invariant-loop-method : goal.invariant-loop-method
-invariant-loop-method l = (l.next ≡ l.at + length (flat_map method_text (take l.method (methods_of l.sheet)))) × (l.out ≡ placed l.at (flat_map method_text (take l.method (methods_of l.sheet))) l.initial.out)
+invariant-loop-method l = Put (flat_map method_text (take l.method l.sheet.methods)) l.initial.out l.out

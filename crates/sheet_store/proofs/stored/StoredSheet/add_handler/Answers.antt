@@ -1,30 +1,20 @@
-use Rattle.std.proofs.Common.{◌<◌, length, vec_items, vec_len, refl, ap, arith}
-use Rattle.sheet.specs.View.{with_methods}
-use Rattle.sheet_store.specs.Stored.{sheet_of, methods_of}
-use Rattle.sheet_store.proofs.Cuts.{handler_pushed, ordered_more, start_more}
-use Rattle.sheet_store.proofs.Stores.{method_total, handler_total, some_header, tiled_lengths}
+use Rattle.std.proofs.Common.{◌<◌, vec_len, ap, ◌∙◌, arith, rules}
+use Rattle.std.proofs.lemmas.Result.{MatchResult-weaker}
+use Rattle.sheet_store.specs.Stored.{cut, sheet_in}
+use Rattle.sheet_store.proofs.Cuts.{cut_length, handlers_are, handler_pushed}
 use Rattle.sheet_store.proofs.stored.StoredSheet.add_handler.Goals as goal
-
-pub push_reserved-requires : goal.push_reserved-requires
-push_reserved-requires g c = omega (arith, handler_total c.args.self.now, c.args.self.now.room)
-
-pub invariant_of-self : goal.invariant_of-self
-invariant_of-self g c =
-    let s = c.args.self.now in
-    let some : 0 < length (methods_of s) = omega (arith, method_total s) in
-    let t = handler_total s in
-    let n = vec_len c.push_reserved.new.self in
-    let o = ordered_more (vec_items s.methods) (vec_len s.code) (vec_len s.handlers) (vec_len s.code) n s.tiled (omega arith) (omega arith) in
-    let b = start_more (vec_items s.methods) (vec_len s.code) (vec_len s.handlers) (vec_len s.code) n (some_header s some) s.begun.0 s.begun.1 in
-    record { room = (omega arith, omega arith, omega arith, omega arith); counts = (omega arith, omega arith, omega arith, omega arith); tiled = o; begun = b }
 
 pub returns : goal.returns
 returns g c =
-    let s = c.args.self.now in
-    let some : 0 < length (methods_of s) = omega (arith, method_total s) in
-    (some, omega (arith, handler_total s), ap (λ ms. with_methods ms (sheet_of s)) (handler_pushed (vec_items s.methods) (vec_items s.code) (vec_items s.handlers) (vec_items c.push_reserved.new.self) c.args.handler c.push_reserved.ensures.items (tiled_lengths s) (some_header s some)))
-
-pub returns-then-len-ge256 : goal.returns-then-len-ge256
-returns-then-len-ge256 g c =
-    let s = c.args.self.now in
-    ((omega (arith, method_total s), omega (arith, handler_total s)), refl)
+    let s = c.self.inside in
+    let i = c.self.invariant in
+    let some : 0 < vec_len s.methods = search rules in
+    let n = cut_length s.methods.items s.code.items s.handlers.items in
+    let t = handlers_are s.methods.items s.code.items s.handlers.items i.handlers_tiled in
+    let m = s.methods.ok.0 in
+    let l = s.handlers.ok.0 in
+    let p = handler_pushed s.methods.items s.code.items s.handlers.items c.args.handler i.code_tiled.in_order i.handlers_tiled.in_order in
+    rw (← c.self.view_is)
+    (MatchResult-weaker c.push_within.result c.push_within.ensures.added
+    (λ _ a. (omega arith, omega arith, ap (λ ms. record { library = s.library.items; methods = ms }) (ap (cut s.methods.items s.code.items) a.1 ∙ p)))
+    (λ e a. (rw a.0 (omega arith, omega arith), ap (λ v. sheet_in s.library.items s.methods.items s.code.items v.items) a.2)))

@@ -1,30 +1,20 @@
-use Rattle.std.proofs.Common.{◌<◌, length, vec_items, vec_len, refl, ap, arith}
-use Rattle.sheet.specs.View.{with_methods}
-use Rattle.sheet_store.specs.Stored.{sheet_of, methods_of}
-use Rattle.sheet_store.proofs.Cuts.{code_pushed, ordered_more, start_more}
-use Rattle.sheet_store.proofs.Stores.{method_total, instruction_total, some_header, tiled_lengths}
+use Rattle.std.proofs.Common.{◌<◌, vec_len, ap, ◌∙◌, arith, rules}
+use Rattle.std.proofs.lemmas.Result.{MatchResult-weaker}
+use Rattle.sheet_store.specs.Stored.{cut, sheet_in}
+use Rattle.sheet_store.proofs.Cuts.{cut_length, instructions_are, code_pushed}
 use Rattle.sheet_store.proofs.stored.StoredSheet.add_instruction.Goals as goal
-
-pub push_reserved-requires : goal.push_reserved-requires
-push_reserved-requires g c = omega (arith, instruction_total c.args.self.now, c.args.self.now.room)
-
-pub invariant_of-self : goal.invariant_of-self
-invariant_of-self g c =
-    let s = c.args.self.now in
-    let some : 0 < length (methods_of s) = omega (arith, method_total s) in
-    let t = instruction_total s in
-    let n = vec_len c.push_reserved.new.self in
-    let o = ordered_more (vec_items s.methods) (vec_len s.code) (vec_len s.handlers) n (vec_len s.handlers) s.tiled (omega arith) (omega arith) in
-    let b = start_more (vec_items s.methods) (vec_len s.code) (vec_len s.handlers) n (vec_len s.handlers) (some_header s some) s.begun.0 s.begun.1 in
-    record { room = (omega arith, omega arith, omega arith, omega arith); counts = (omega arith, omega arith, omega arith, omega arith); tiled = o; begun = b }
 
 pub returns : goal.returns
 returns g c =
-    let s = c.args.self.now in
-    let some : 0 < length (methods_of s) = omega (arith, method_total s) in
-    (some, omega (arith, instruction_total s), ap (λ ms. with_methods ms (sheet_of s)) (code_pushed (vec_items s.methods) (vec_items s.code) (vec_items c.push_reserved.new.self) (vec_items s.handlers) c.args.instruction c.push_reserved.ensures.items (tiled_lengths s) (some_header s some)))
-
-pub returns-then-len-ge2048 : goal.returns-then-len-ge2048
-returns-then-len-ge2048 g c =
-    let s = c.args.self.now in
-    ((omega (arith, method_total s), omega (arith, instruction_total s)), refl)
+    let s = c.self.inside in
+    let i = c.self.invariant in
+    let some : 0 < vec_len s.methods = search rules in
+    let n = cut_length s.methods.items s.code.items s.handlers.items in
+    let t = instructions_are s.methods.items s.code.items s.handlers.items i.code_tiled in
+    let m = s.methods.ok.0 in
+    let l = s.code.ok.0 in
+    let p = code_pushed s.methods.items s.code.items s.handlers.items c.args.instruction i.code_tiled.in_order i.handlers_tiled.in_order in
+    rw (← c.self.view_is)
+    (MatchResult-weaker c.push_within.result c.push_within.ensures.added
+    (λ _ a. (omega arith, omega arith, ap (λ ms. record { library = s.library.items; methods = ms }) (ap (λ d. cut s.methods.items d s.handlers.items) a.1 ∙ p)))
+    (λ e a. (rw a.0 (omega arith, omega arith), ap (λ v. sheet_in s.library.items s.methods.items v.items s.handlers.items) a.2)))

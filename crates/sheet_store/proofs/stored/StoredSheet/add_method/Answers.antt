@@ -1,32 +1,19 @@
-use Rattle.std.proofs.Common.{vec_items, vec_len, refl, ap, ◌∙◌, arith}
-use Rattle.sheet_store.specs.Tiles.{ordered, code_start, handler_start}
-use Rattle.sheet.specs.View.{with_methods}
-use Rattle.sheet_store.specs.Stored.{cut, sheet_of}
+use Rattle.std.proofs.Common.{ap, ◌∙◌, arith}
+use Rattle.std.proofs.lemmas.Result.{MatchResult-weaker}
+use Rattle.sheet_store.specs.Stored.{cut, sheet_in}
 use Rattle.sheet_store.specs.declared.stored.Header.{Header}
-use Rattle.sheet_store.proofs.Cuts.{method_added, ordered_added, start_added}
-use Rattle.sheet_store.proofs.Stores.{method_total}
+use Rattle.sheet_store.proofs.Cuts.{cut_length, method_added}
 use Rattle.sheet_store.proofs.stored.StoredSheet.add_method.Goals as goal
-
-pub push_reserved-requires : goal.push_reserved-requires
-push_reserved-requires g c = omega (arith, method_total c.args.self.now, c.args.self.now.room)
-
-pub invariant_of-self : goal.invariant_of-self
-invariant_of-self g c =
-    let s = c.args.self.now in
-    let h : Header = record { shape = c.args.shape; first = c.len-first.result; guard = c.len-guard.result } in
-    let n = vec_len s.code in
-    let m = vec_len s.handlers in
-    let e = c.push_reserved.ensures.items in
-    let o = ordered_added (vec_items s.methods) h n m s.tiled c.len-first.ensures c.len-guard.ensures in
-    let b = start_added (vec_items s.methods) h n m s.begun.0 s.begun.1 c.len-first.ensures c.len-guard.ensures in
-    let t = method_total s in
-    record { room = (omega arith, omega arith, omega arith, omega arith); counts = (omega arith, omega arith, omega arith, omega arith); tiled = ap (λ hs. ordered hs n m) e ∙ o; begun = (ap (λ hs. code_start hs n) e ∙ b.0, ap (λ hs. handler_start hs m) e ∙ b.1) }
 
 pub returns : goal.returns
 returns g c =
-    let s = c.args.self.now in
-    let h : Header = record { shape = c.args.shape; first = c.len-first.result; guard = c.len-guard.result } in
-    (omega (arith, method_total s), ap (λ ms. with_methods ms (sheet_of s)) (ap (λ hs. cut hs (vec_items s.code) (vec_items s.handlers)) c.push_reserved.ensures.items ∙ method_added (vec_items s.methods) h _ _ (c.len-first.ensures ∙ s.code.ok.0) (c.len-guard.ensures ∙ s.handlers.ok.0)))
-
-pub returns-then-len-ge16 : goal.returns-then-len-ge16
-returns-then-len-ge16 g c = (refl, omega (arith, method_total c.args.self.now), refl)
+    let s = c.self.inside in
+    let i = c.self.invariant in
+    let h : Header = record { shape = c.args.shape; code_begin = c.len.result; handlers_begin = c.len-2.result } in
+    let n = cut_length s.methods.items s.code.items s.handlers.items in
+    let m = s.methods.ok.0 in
+    let p = method_added s.methods.items h s.code.items s.handlers.items (c.len.ensures ∙ s.code.ok.0) (c.len-2.ensures ∙ s.handlers.ok.0) i.code_tiled.in_order i.handlers_tiled.in_order in
+    rw (← c.self.view_is)
+    (MatchResult-weaker c.push_within.result c.push_within.ensures.added
+    (λ _ a. (omega arith, ap (λ ms. record { library = s.library.items; methods = ms }) (ap (λ hs. cut hs s.code.items s.handlers.items) a.1 ∙ p)))
+    (λ e a. (a.0, omega arith, ap (λ v. sheet_in s.library.items v.items s.code.items s.handlers.items) a.2)))

@@ -1,9 +1,12 @@
 use Rattle.std.proofs.Common.{length, ap, arith}
-use Rattle.sheet_store.specs.Stored.{sheet_of}
+use Rattle.sheet.specs.Text.{sheet_text}
 use Rattle.sheet_laws.proofs.TextLaws.{text_long}
 use Rattle.sheet_text.proofs.read_sheet.ReadSheet.text_length.Goals as goal
 
 pub returns : goal.returns
-returns c =
-    let s = c.args.self.now in
-    omega (arith, text_long (sheet_of s.stored) s.bounds, ap length c.library.ensures.0)
+returns c = omega (
+  arith,
+  text_long c.contents-sheet.result.now c.contents-sheet.ensures.1,
+  ap length c.library.ensures.0,
+  ap (λ s. length (sheet_text s)) c.contents-sheet.ensures.0,
+)
