@@ -4,6 +4,4 @@
 #[cfg(test)]
 mod reading_tests;
 #[cfg(test)]
-mod texts;
-#[cfg(test)]
 mod writing_tests;

@@ -1,3 +1,2 @@
+pub mod Columned
 pub mod Numbered
-pub mod Padded
-pub mod Tallies

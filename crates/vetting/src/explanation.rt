@@ -1,6 +1,4 @@
 // What is told of a line that is refused.
-ghost use Rattle.std.specs.Prelude.{◌≡◌};
-
 use crate::columns::{field_bytes, first_column, last_column, line_length};
 use crate::number_fault::number_fault;
 use crate::quoted::Quoted;
@@ -12,213 +10,179 @@ use std::fmt;
 // A refused line, its number counted from 0, and why it is refused.
 #[derive(Drop)]
 pub(crate) struct Explanation<'a> {
-    line: &'a [u8],
-    number: usize,
-    fault: LineFault,
-}
-
-impl<'a> Explanation<'a> {
-    pub(crate) fn new(line: &'a [u8], number: usize, fault: LineFault) -> Explanation<'a>
-        ensures { (result.line.now ≡ line.now) × ((result.number ≡ number) × (result.fault ≡ fault)) }
-    {
-        Explanation {
-            line,
-            number,
-            fault,
-        }
-    }
+    pub(crate) line: &'a [u8],
+    pub(crate) number: usize,
+    pub(crate) fault: LineFault,
 }
 
 impl fmt::Display for Explanation<'_> {
     fn fmt<W: fmt::Write>(&self, f: &mut fmt::Formatter<W>) -> fmt::Result {
-        let line = self.line;
-        let fault = self.fault;
-        write_place(f, line, self.number, fault.number())?;
-        match fault {
-            LineFault::Form(fault) => write_form(f, line, fault),
-            LineFault::Field(fault) => write_field(f, line, fault),
-            LineFault::Order(fault) => write_order(f, fault),
+        self.write_place(f)?;
+        match self.fault {
+            LineFault::Form(fault) => self.write_form(f, fault),
+            LineFault::Field(fault) => self.write_field(f, fault),
+            LineFault::Order(fault) => writeln!(f, "{}", order_rule(fault)),
             LineFault::Count(counted) => write_count(f, counted),
         }
     }
 }
 
-fn write_place<W: fmt::Write>(
-    f: &mut fmt::Formatter<W>,
-    line: &[u8],
-    number: usize,
-    refusal: u8,
-) -> fmt::Result {
-    let from_one = number.saturating_add(1);
-    let text = Quoted::new(line);
-    writeln!(
-        f,
-        "The sheet does not read: refusal {refusal} at line {number}, counted from 0 (line {from_one}, counted from 1)."
-    )?;
-    writeln!(f, "The line is {text}.")
-}
+impl Explanation<'_> {
+    fn write_place<W: fmt::Write>(&self, f: &mut fmt::Formatter<W>) -> fmt::Result {
+        let refusal = self.fault.number();
+        let number = self.number;
+        let from_one = number.saturating_add(1);
+        let text = Quoted(self.line);
+        writeln!(
+            f,
+            "The sheet does not read: refusal {refusal} at line {number}, counted from 0 (line {from_one}, counted from 1)."
+        )?;
+        writeln!(f, "The line is {text}.")
+    }
 
-fn write_form<W: fmt::Write>(
-    f: &mut fmt::Formatter<W>,
-    line: &[u8],
-    fault: FormFault,
-) -> fmt::Result {
-    match fault {
-        FormFault::UnknownLetter => write_letter(f, line),
-        FormFault::NoLineFeed => {
-            writeln!(
+    fn write_form<W: fmt::Write>(
+        &self,
+        f: &mut fmt::Formatter<W>,
+        fault: FormFault,
+    ) -> fmt::Result {
+        match fault {
+            FormFault::UnknownLetter => self.write_letter(f),
+            FormFault::NoLineFeed => writeln!(
                 f,
                 "The line does not end with a line feed. Every line must end with one, the last line too."
-            )
-        }
-        FormFault::WrongLength => write_length(f, line),
-    }
-}
-
-fn write_letter<W: fmt::Write>(f: &mut fmt::Formatter<W>, line: &[u8]) -> fmt::Result {
-    match line {
-        [] | [b'\n', ..] => writeln!(f, "The line is empty. A sheet has no empty lines.")?,
-        [first, ..] => {
-            let bytes = [*first];
-            let letter = Quoted::new(&bytes);
-            writeln!(
-                f,
-                "The line begins with {letter}, which is no letter of a line."
-            )?
+            ),
+            FormFault::WrongLength => self.write_length(f),
         }
     }
-    writeln!(
-        f,
-        "A line must begin with L (library method), M (own method), I (instruction) or X (handler)."
-    )
-}
 
-fn write_length<W: fmt::Write>(f: &mut fmt::Formatter<W>, line: &[u8]) -> fmt::Result {
-    let [first, ..] = line else {
-        return Ok(());
-    };
-    let Ok(letter) = Letter::try_from(*first) else {
-        return Ok(());
-    };
-    let name = char::from(*first);
-    let right = line_length(letter);
-    let length = Amount::new(line.len(), "byte");
-    writeln!(
-        f,
-        "The line has {length}, but every {name} line has {right}, both counted with the letter and the line feed."
-    )?;
-    match line {
-        [.., b'\r', b'\n'] => writeln!(
+    fn write_letter<W: fmt::Write>(&self, f: &mut fmt::Formatter<W>) -> fmt::Result {
+        match self.line {
+            [] | [b'\n', ..] => writeln!(f, "The line is empty. A sheet has no empty lines.")?,
+            [first, ..] => {
+                let bytes = [*first];
+                let letter = Quoted(&bytes);
+                writeln!(
+                    f,
+                    "The line begins with {letter}, which is no letter of a line."
+                )?
+            }
+        }
+        writeln!(
             f,
-            "It ends with a carriage return and a line feed; it must end with a line feed alone."
-        ),
-        _ => Ok(()),
+            "A line must begin with L (library method), M (own method), I (instruction) or X (handler)."
+        )
+    }
+
+    fn write_length<W: fmt::Write>(&self, f: &mut fmt::Formatter<W>) -> fmt::Result {
+        let [first, ..] = self.line else {
+            return Ok(());
+        };
+        let Ok(letter) = Letter::try_from(*first) else {
+            return Ok(());
+        };
+        let name = char::from(*first);
+        let right = line_length(letter);
+        let length = Amount(self.line.len(), "byte");
+        writeln!(
+            f,
+            "The line has {length}, but every {name} line has {right}, both counted with the letter and the line feed."
+        )?;
+        match self.line {
+            [.., b'\r', b'\n'] => writeln!(
+                f,
+                "It ends with a carriage return and a line feed; it must end with a line feed alone."
+            ),
+            _ => Ok(()),
+        }
+    }
+
+    fn write_field<W: fmt::Write>(
+        &self,
+        f: &mut fmt::Formatter<W>,
+        fault: FieldFault,
+    ) -> fmt::Result {
+        let line = self.line;
+        match fault {
+            FieldFault::NoNumber(field) => InField { line, field }.write_no_number(f),
+            FieldFault::OutOfRange(field) => InField { line, field }.write_out_of_range(f),
+        }
     }
 }
 
-fn write_field<W: fmt::Write>(
-    f: &mut fmt::Formatter<W>,
-    line: &[u8],
-    fault: FieldFault,
-) -> fmt::Result {
-    match fault {
-        FieldFault::NoNumber(field) => write_no_number(f, line, field),
-        FieldFault::OutOfRange(field) => write_out_of_range(f, line, field),
-    }
-}
-
-// The field with its columns and its bytes, as the beginning of a sentence.
-fn write_holding<W: fmt::Write>(
-    f: &mut fmt::Formatter<W>,
-    line: &[u8],
+// A field of a line.
+#[derive(Drop)]
+struct InField<'a> {
+    line: &'a [u8],
     field: Field,
-) -> fmt::Result {
-    let name = field_name(field);
-    let first = first_column(field);
-    let last = last_column(field);
-    let bytes = Quoted::new(field_bytes(line, field));
-    write!(
-        f,
-        "The field {name}, columns {first} to {last}, holds {bytes}, "
-    )
 }
 
-fn write_no_number<W: fmt::Write>(
-    f: &mut fmt::Formatter<W>,
-    line: &[u8],
-    field: Field,
-) -> fmt::Result {
-    write_holding(f, line, field)?;
-    match number_fault(field_bytes(line, field)) {
-        Some(fault) => writeln!(f, "which is no number: {fault}.")?,
-        None => writeln!(f, "which is no number.")?,
+impl InField<'_> {
+    fn bytes(&self) -> &[u8] {
+        field_bytes(self.line, self.field)
     }
-    write_range(f, field)?;
-    writeln!(
-        f,
-        "A number must stand at the right end of its field, with blanks in front and no leading zeros."
-    )
-}
 
-fn write_out_of_range<W: fmt::Write>(
-    f: &mut fmt::Formatter<W>,
-    line: &[u8],
-    field: Field,
-) -> fmt::Result {
-    write_holding(f, line, field)?;
-    writeln!(f, "which is out of range.")?;
-    write_range(f, field)
-}
+    // The field with its columns and its bytes, as the beginning of a sentence.
+    fn write_holding<W: fmt::Write>(&self, f: &mut fmt::Formatter<W>) -> fmt::Result {
+        let name = field_name(self.field);
+        let first = first_column(self.field);
+        let last = last_column(self.field);
+        let bytes = Quoted(self.bytes());
+        write!(
+            f,
+            "The field {name}, columns {first} to {last}, holds {bytes}, "
+        )
+    }
 
-fn write_range<W: fmt::Write>(f: &mut fmt::Formatter<W>, field: Field) -> fmt::Result {
-    let least = field.least();
-    let greatest = field.greatest();
-    match field {
-        Field::Op => writeln!(f, "Ops run from {least} to {greatest}."),
-        _ => writeln!(f, "It must hold a number from {least} to {greatest}."),
+    fn write_no_number<W: fmt::Write>(&self, f: &mut fmt::Formatter<W>) -> fmt::Result {
+        self.write_holding(f)?;
+        match number_fault(self.bytes()) {
+            Some(fault) => writeln!(f, "which is no number: {fault}.")?,
+            None => writeln!(f, "which is no number.")?,
+        }
+        self.write_range(f)?;
+        writeln!(
+            f,
+            "A number must stand at the right end of its field, with blanks in front and no leading zeros."
+        )
+    }
+
+    fn write_out_of_range<W: fmt::Write>(&self, f: &mut fmt::Formatter<W>) -> fmt::Result {
+        self.write_holding(f)?;
+        writeln!(f, "which is out of range.")?;
+        self.write_range(f)
+    }
+
+    fn write_range<W: fmt::Write>(&self, f: &mut fmt::Formatter<W>) -> fmt::Result {
+        let least = self.field.least();
+        let greatest = self.field.greatest();
+        match self.field {
+            Field::Op => writeln!(f, "Ops run from {least} to {greatest}."),
+            _ => writeln!(f, "It must hold a number from {least} to {greatest}."),
+        }
     }
 }
 
-fn write_order<W: fmt::Write>(f: &mut fmt::Formatter<W>, fault: OrderFault) -> fmt::Result {
+// The rule of the order of lines that a line breaks.
+fn order_rule(fault: OrderFault) -> &'static str {
     match fault {
         OrderFault::LibraryBehindMethod => {
-            writeln!(
-                f,
-                "An L line stands behind an M line. All L lines must stand ahead of the first M line."
-            )
+            "An L line stands behind an M line. All L lines must stand ahead of the first M line."
         }
         OrderFault::NoMethodYet => {
-            writeln!(
-                f,
-                "No M line stands ahead of this line. The I and X lines of a method must stand behind its M line."
-            )
+            "No M line stands ahead of this line. The I and X lines of a method must stand behind its M line."
         }
         OrderFault::InstructionBehindHandler => {
-            writeln!(
-                f,
-                "An I line stands behind an X line of its method. All I lines of a method must stand ahead of its X lines."
-            )
+            "An I line stands behind an X line of its method. All I lines of a method must stand ahead of its X lines."
         }
     }
 }
 
 fn write_count<W: fmt::Write>(f: &mut fmt::Formatter<W>, counted: Counted) -> fmt::Result {
-    match counted {
-        Counted::LibraryMethods => writeln!(
-            f,
-            "A sheet has at most 32 L lines (library methods), and this is one more."
-        ),
-        Counted::OwnMethods => writeln!(
-            f,
-            "A sheet has at most 16 M lines (own methods), and this is one more."
-        ),
-        Counted::Instructions => writeln!(
-            f,
-            "A sheet has at most 2048 I lines (instructions), and this is one more."
-        ),
-        Counted::Handlers => writeln!(
-            f,
-            "A sheet has at most 256 X lines (handlers), and this is one more."
-        ),
-    }
+    let most = match counted {
+        Counted::LibraryMethods => "32 L lines (library methods)",
+        Counted::OwnMethods => "16 M lines (own methods)",
+        Counted::Instructions => "2048 I lines (instructions)",
+        Counted::Handlers => "256 X lines (handlers)",
+    };
+    writeln!(f, "A sheet has at most {most}, and this is one more.")
 }

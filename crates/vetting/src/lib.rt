@@ -4,6 +4,7 @@
 mod check_explanation;
 mod columns;
 mod explanation;
+mod in_method;
 mod lines;
 mod mnemonic;
 mod number_fault;

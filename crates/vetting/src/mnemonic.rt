@@ -3,6 +3,7 @@ use sheet::op::{Op, OperandUse};
 use sheet::records::ReadInstruction;
 use std::fmt;
 
+// The word for an op. It is what people write and no part of what an op is, so that it is no Display of `Op`.
 pub(crate) fn mnemonic(op: Op) -> &'static str {
     match op {
         Op::LoadConstant => "ldc",
@@ -28,22 +29,14 @@ pub(crate) fn mnemonic(op: Op) -> &'static str {
 
 // An instruction with its operand. An operand that is not used is left out where it is 0, as it must be.
 #[derive(Drop)]
-pub(crate) struct Written {
-    instruction: ReadInstruction,
-}
-
-impl Written {
-    pub(crate) fn new(instruction: ReadInstruction) -> Written {
-        Written { instruction }
-    }
-}
+pub(crate) struct Written(pub(crate) ReadInstruction);
 
 impl fmt::Display for Written {
     fn fmt<W: fmt::Write>(&self, f: &mut fmt::Formatter<W>) -> fmt::Result {
-        let name = mnemonic(self.instruction.op);
-        let operand = self.instruction.operand;
-        match self.instruction.op.row().operand {
-            OperandUse::Unused if operand == 0 => write!(f, "{name}"),
+        let ReadInstruction { op, operand } = self.0;
+        let name = mnemonic(op);
+        match op.row().operand {
+            OperandUse::Unused if operand == 0 => f.write_str(name),
             _ => write!(f, "{name} {operand}"),
         }
     }

@@ -22,17 +22,15 @@ impl fmt::Display for NumberFault {
             NumberFault::BlankAtEnd => f.write_str("its last column is blank"),
             NumberFault::PlusSign => f.write_str("a plus sign is not allowed"),
             NumberFault::NoDigit => f.write_str("it has no digit"),
-            NumberFault::NotADigit(byte) => write_byte_fault(f, byte),
+            NumberFault::NotADigit(byte) => {
+                let bytes = [byte];
+                let shown = Quoted(&bytes);
+                write!(f, "it has {shown} where a digit belongs")
+            }
             NumberFault::MinusZero => f.write_str("zero has no minus sign"),
             NumberFault::LeadingZero => f.write_str("a leading zero is not allowed"),
         }
     }
-}
-
-fn write_byte_fault<W: fmt::Write>(f: &mut fmt::Formatter<W>, byte: u8) -> fmt::Result {
-    let bytes = [byte];
-    let shown = Quoted::new(&bytes);
-    write!(f, "it has {shown} where a digit belongs")
 }
 
 // The bytes behind the blanks that stand in front.
@@ -49,10 +47,8 @@ fn unpadded(field: &[u8]) -> &[u8]
 
 // What is wrong with the digits of a number, if anything is.
 fn digits_fault(digits: &[u8]) -> Option<NumberFault> {
-    for b in digits {
-        if !b.is_ascii_digit() {
-            return Some(NumberFault::NotADigit(*b));
-        }
+    if let Some(byte) = digits.iter().find(|b| !b.is_ascii_digit()) {
+        return Some(NumberFault::NotADigit(*byte));
     }
     match digits {
         [] => Some(NumberFault::NoDigit),

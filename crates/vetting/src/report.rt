@@ -18,6 +18,7 @@ use refusal::Refusal;
 use sheet::faults::SheetFault;
 use sheet_text::read_sheet::ReadSheet;
 use std::alloc::{AllocError, Global};
+use std::fmt;
 
 // Reads a text into one sheet and checks it into the other, and says what was read, or what is wrong with which line or method.
 // The first line of the report on a refused text is for programs, the rest is for people.
@@ -47,39 +48,49 @@ fn judged(heap: Global, sheet: &ReadSheet, checked: &mut CheckedSheet) -> Result
     }
 }
 
+// The rest of a report behind its opening.
+fn opened<D: fmt::Display>(heap: Global, opening: &str, rest: &D) -> Result<String, AllocError>
+    ensures { IfOk result (λ s. Begins opening.now (string_bytes s)) }
+{
+    let rest = format!(in heap; "{rest}")?;
+    format!(in heap; "{opening}{rest}")
+}
+
 fn accepted(heap: Global, sheet: &ReadSheet) -> Result<String, AllocError>
     ensures { IfOk result (λ s. Begins (codes "The sheet passes") (string_bytes s)) }
 {
-    let summary = Summary::new(sheet.contents());
-    let rest = format!(in heap; "{summary}")?;
-    format!(in heap; "The sheet passes{rest}")
+    opened(heap, "The sheet passes", &Summary(sheet.contents()))
 }
 
 fn unchecked(heap: Global, sheet: &ReadSheet, fault: CheckFault) -> Result<String, AllocError>
     ensures { IfOk result (λ s. Begins (refusal_line (check_refusal fault)) (string_bytes s)) }
 {
     let line = refusal_line(heap, Refusal::from(fault))?;
-    let explanation = CheckExplanation::new(sheet.contents(), fault);
-    let rest = format!(in heap; "{explanation}")?;
-    format!(in heap; "{line}{rest}")
+    let sheet = sheet.contents();
+    opened(heap, line.as_str(), &CheckExplanation { sheet, fault })
 }
 
 fn refused(heap: Global, text: &[u8], fault: SheetFault) -> Result<String, AllocError>
     ensures { IfOk result (λ s. Begins (refusal_line (sheet_refusal fault)) (string_bytes s)) }
 {
-    let line = refusal_line(heap, Refusal::from(fault))?;
-    let explanation = explained(heap, text, fault)?;
-    format!(in heap; "{line}{explanation}")
-}
-
-fn explained(heap: Global, text: &[u8], fault: SheetFault) -> Result<String, AllocError> {
+    let opening = refusal_line(heap, Refusal::from(fault))?;
     match fault {
         SheetFault::Line(number, fault) => {
-            let explanation = Explanation::new(line_at(text, number), number, fault);
-            format!(in heap; "{explanation}")
+            let line = line_at(text, number);
+            opened(
+                heap,
+                opening.as_str(),
+                &Explanation {
+                    line,
+                    number,
+                    fault,
+                },
+            )
         }
-        SheetFault::ShortBuffer => {
-            format!(in heap; "The buffer is shorter than the text of the sheet.\n")
-        }
+        SheetFault::ShortBuffer => opened(
+            heap,
+            opening.as_str(),
+            &"The buffer is shorter than the text of the sheet.\n",
+        ),
     }
 }

@@ -1,31 +1,21 @@
 // What is told of a sheet behind the words "The sheet passes".
-ghost use Rattle.std.specs.Prelude.{◌≡◌};
-ghost use Rattle.vetting.specs.Watched.{watched_in};
+ghost use Rattle.std.specs.Prelude.{◌≡◌, count_by};
 
+use crate::in_method::InMethod;
 use crate::words::Amount;
 use sheet::records::Signature;
 use sheet_text::reading::TextSheet;
 use std::fmt;
 
 #[derive(Drop)]
-pub(crate) struct Summary<'a> {
-    sheet: &'a TextSheet,
-}
-
-impl<'a> Summary<'a> {
-    pub(crate) fn new(sheet: &'a TextSheet) -> Summary<'a>
-        ensures { result.sheet.now ≡ sheet.now }
-    {
-        Summary { sheet }
-    }
-}
+pub(crate) struct Summary<'a>(pub(crate) &'a TextSheet);
 
 impl fmt::Display for Summary<'_> {
     fn fmt<W: fmt::Write>(&self, f: &mut fmt::Formatter<W>) -> fmt::Result {
-        let sheet = self.sheet;
+        let sheet = self.0;
         write_totals(f, sheet)?;
-        for method in 0..sheet.method_count() {
-            write_method(f, sheet, method)?;
+        for method in (0..sheet.method_count()).filter_map(|number| InMethod::of(sheet, number)) {
+            write_method(f, &method)?;
         }
         Ok(())
     }
@@ -33,45 +23,37 @@ impl fmt::Display for Summary<'_> {
 
 // How many library methods are watched.
 fn watched_count(library: &[Signature]) -> usize
-    ensures { result ≡ watched_in library.now }
+    ensures { result ≡ count_by (λ s. s.watched) library.now }
 {
-    let mut watched = 0;
-    for signature in library {
-        if signature.watched {
-            watched += 1;
-        }
-    }
-    watched
+    library.iter().filter(|signature| signature.watched).count()
 }
 
 fn write_totals<W: fmt::Write>(f: &mut fmt::Formatter<W>, sheet: &TextSheet) -> fmt::Result {
-    let library = Amount::new(sheet.library().len(), "library method");
+    let library = Amount(sheet.library().len(), "library method");
     let watched = watched_count(sheet.library());
-    let methods = Amount::new(sheet.method_count(), "own method");
-    let instructions = Amount::new(sheet.instruction_count(), "instruction");
-    let handlers = Amount::new(sheet.handler_count(), "handler");
+    let methods = Amount(sheet.method_count(), "own method");
+    let instructions = Amount(sheet.instruction_count(), "instruction");
+    let handlers = Amount(sheet.handler_count(), "handler");
     writeln!(
         f,
         ": {library} ({watched} watched), {methods}, {instructions}, {handlers}."
     )
 }
 
-fn write_method<W: fmt::Write>(
-    f: &mut fmt::Formatter<W>,
-    sheet: &TextSheet,
-    method: usize,
-) -> fmt::Result {
-    let Some(shape) = sheet.shape(method) else {
-        return Ok(());
+fn write_method<W: fmt::Write>(f: &mut fmt::Formatter<W>, method: &InMethod) -> fmt::Result {
+    let number = method.number;
+    let arguments = method.arguments();
+    let value = if method.shape.gives {
+        "a value"
+    } else {
+        "nothing"
     };
-    let arguments = Amount::new(usize::from(shape.arguments), "argument");
-    let value = if shape.gives { "a value" } else { "nothing" };
-    let locals = Amount::new(usize::from(shape.locals), "local");
-    let limit = shape.stack_limit;
-    let instructions = Amount::new(sheet.code(method).len(), "instruction");
-    let handlers = Amount::new(sheet.handlers(method).len(), "handler");
+    let locals = method.locals();
+    let limit = method.shape.stack_limit;
+    let instructions = method.instructions();
+    let handlers = Amount(method.handlers().len(), "handler");
     writeln!(
         f,
-        "Method {method}: takes {arguments}, gives {value}, {locals}, stack limit {limit}, {instructions}, {handlers}."
+        "Method {number}: takes {arguments}, gives {value}, {locals}, stack limit {limit}, {instructions}, {handlers}."
     )
 }

@@ -1,42 +1,25 @@
 // Names and amounts as people write them.
-ghost use Rattle.std.specs.Prelude.{◌≡◌, [], ◌∷◌, ◌++◌, if◌then◌else◌, Some, decimal, nat_eq};
-
 use sheet::fields::Field;
 use std::fmt;
 
-// The ending of a noun that stands behind a number.
-pub(crate) fn ending(count: usize) -> &'static str
-    ensures { result.now ≡ (if nat_eq count 1 then [] else 115 ∷ []) }
-{
-    if count == 1 { "" } else { "s" }
-}
-
 // A number with its noun, which is given in the singular.
 #[derive(Drop)]
-pub(crate) struct Amount {
-    count: usize,
-    noun: &'static str,
-}
-
-impl Amount {
-    pub(crate) fn new(count: usize, noun: &'static str) -> Amount
-        ensures { (result.count ≡ count) × (result.noun.now ≡ noun.now) }
-    {
-        Amount { count, noun }
-    }
-}
+pub(crate) struct Amount(pub(crate) usize, pub(crate) &'static str);
 
 impl fmt::Display for Amount {
-    ghost output = { λ a. Some (decimal a.count ++ (32 ∷ (a.noun.now ++ (if nat_eq a.count 1 then [] else 115 ∷ [])))) };
+    ghost use Rattle.std.specs.Prelude.{[], ◌∷◌, ◌++◌, ◌==◌, if◌then◌else◌, Some, codes, decimal};
+
+    ghost output = { λ a. Some (decimal a.0 ++ (32 ∷ (a.1.now ++ (if a.0 == 1 then [] else codes "s")))) };
 
     fn fmt<W: fmt::Write>(&self, f: &mut fmt::Formatter<W>) -> fmt::Result {
-        let count = self.count;
-        let noun = self.noun;
-        let ending = ending(count);
+        let count = self.0;
+        let noun = self.1;
+        let ending = if count == 1 { "" } else { "s" };
         write!(f, "{count} {noun}{ending}")
     }
 }
 
+// What the program `vet` calls a field. The words are its own and no part of what a field is, so that they are no Display of it.
 pub(crate) fn field_name(field: Field) -> &'static str {
     match field {
         Field::Arguments => "arguments",
