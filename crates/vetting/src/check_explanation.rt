@@ -1,7 +1,7 @@
 // What is told of a sheet that reads and does not pass the check.
 use crate::in_method::InMethod;
-use crate::mnemonic::{Written, mnemonic};
 use crate::words::Amount;
+use crate::written::Written;
 use check_rules::faults::{CheckFault, MethodFault};
 use refusal::Refusal;
 use sheet::location::PlainLocation;
@@ -92,8 +92,8 @@ impl InMethod<'_> {
         self.write_instruction(f, location, *instruction)?;
         match instruction.op.row().operand {
             OperandUse::Unused => {
-                let name = mnemonic(instruction.op);
-                writeln!(f, ", but {name} uses no operand: it must be 0.")
+                let op = instruction.op;
+                writeln!(f, ", but {op} uses no operand: it must be 0.")
             }
             OperandUse::Number => writeln!(f, "."),
             OperandUse::Argument => write_range(f, "method", self.arguments()),

@@ -2,7 +2,7 @@
 use crate::columns::{field_bytes, first_column, last_column, line_length};
 use crate::number_fault::number_fault;
 use crate::quoted::Quoted;
-use crate::words::{Amount, field_name};
+use crate::words::Amount;
 use sheet::faults::{Counted, FieldFault, FormFault, LineFault, OrderFault};
 use sheet::fields::{Field, Letter};
 use std::fmt;
@@ -123,13 +123,13 @@ impl InField<'_> {
 
     // The field with its columns and its bytes, as the beginning of a sentence.
     fn write_holding<W: fmt::Write>(&self, f: &mut fmt::Formatter<W>) -> fmt::Result {
-        let name = field_name(self.field);
+        let field = self.field;
         let first = first_column(self.field);
         let last = last_column(self.field);
         let bytes = Quoted(self.bytes());
         write!(
             f,
-            "The field {name}, columns {first} to {last}, holds {bytes}, "
+            "The field {field}, columns {first} to {last}, holds {bytes}, "
         )
     }
 

@@ -1,5 +1,4 @@
-// Names and amounts as people write them.
-use sheet::fields::Field;
+// Amounts as people write them.
 use std::fmt;
 
 // A number with its noun, which is given in the singular.
@@ -16,23 +15,5 @@ impl fmt::Display for Amount {
         let noun = self.1;
         let ending = if count == 1 { "" } else { "s" };
         write!(f, "{count} {noun}{ending}")
-    }
-}
-
-// What the program `vet` calls a field. The words are its own and no part of what a field is, so that they are no Display of it.
-pub(crate) fn field_name(field: Field) -> &'static str {
-    match field {
-        Field::Arguments => "arguments",
-        Field::Gives => "gives",
-        Field::Watched => "watched",
-        Field::Locals => "locals",
-        Field::StackLimit => "stack limit",
-        Field::Op => "op",
-        Field::Operand => "operand",
-        Field::TryBegin => "try begin",
-        Field::TryEnd => "try end",
-        Field::Kind => "kind",
-        Field::CatchBegin => "catch begin",
-        Field::CatchEnd => "catch end",
     }
 }
