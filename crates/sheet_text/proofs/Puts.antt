@@ -21,13 +21,6 @@ module _ (t u : List ℕ) (a b : Output) (p : Put t a b) where
     same_buffer = q.same_buffer ∙ p.same_buffer;
   }
 
-  -- where both fit, the second fits behind the first
-  pub fits_more : Fits (t ++ u) a → Fits u b
-  fits_more h = omega (arith, length-append t u, ap length p.rest, length-drop (length t) (left a))
-
-pub fits_first : (t u : List ℕ) (a : Output) → Fits (t ++ u) a → Fits t a
-fits_first t u a h = omega (arith, length-append t u)
-
 -- pieces put one behind the other
 module _ {X : Type 0} (f : X → List ℕ) (xs : List X) (i : ℕ) (x : X) (is : x ≡ get_or xs i x) (inside : i < length xs) (a b : Output) (before : Put (flat_map f (take i xs)) a b) where
   pub next_fits : Fits (flat_map f xs) a → Fits (f x) b

@@ -1,5 +1,5 @@
 // One line of a text: its letter, its fields and its line feed.
-ghost use Rattle.std.specs.Prelude.{◌≡◌, ◌≤◌, length, take, drop, pos, Ok, Err, OnOk, IfOk, IfErr};
+ghost use Rattle.std.specs.Prelude.{◌≡◌, ◌≤◌, length, take, drop, pos, Ok, Err, IfOk, IfErr};
 ghost use Rattle.sheet.specs.Columns.{field_read};
 ghost use Rattle.sheet.specs.Fields.{width_of, widths, fields_of, lowest, highest};
 ghost use Rattle.sheet.specs.Lines.{parted, fields_read, line_read};
@@ -70,8 +70,10 @@ impl<'a> Columns<'a> {
     fn location(&mut self, field: Field) -> Result<PlainLocation, FieldFault>
         requires enough_columns { width_of field ≤ length self.old }
         requires holds_location { (lowest field ≡ pos 0) × (highest field ≡ pos 2048) }
-        ensures ok { IfOk result (λ l. field_read field (take (width_of field) self.old) ≡ Ok (pos l.number)) }
-        ensures err { IfErr result (λ e. field_read field (take (width_of field) self.old) ≡ Err e) }
+        ensures ok { IfOk result (λ l.
+            field_read field (take (width_of field) self.old) ≡ Ok (pos l.number)) }
+        ensures err { IfErr result (λ e.
+            field_read field (take (width_of field) self.old) ≡ Err e) }
         ensures rest { self.new ≡ drop (width_of field) self.old }
     {
         let number = self.next(field)?;

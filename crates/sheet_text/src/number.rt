@@ -1,5 +1,6 @@
 // Numbers in their columns: right-justified decimal text, with a minus ahead of a negative one.
-ghost use Rattle.std.specs.Prelude.{◌≡◌, ℕ, ◌+◌, ◌-◌, ◌^◌, ◌<◌, ◌≤◌, ◌++◌, length, replicate, ℤ, decimal, MatchOption, ◌≢◌, slice_index};
+ghost use Rattle.std.specs.Prelude.{◌≡◌, ℕ, ◌-◌, ◌^◌, ◌<◌, ◌≤◌, ◌++◌, length, replicate, ℤ, decimal};
+ghost use Rattle.std.specs.Prelude.{MatchOption, ◌≢◌, slice_index};
 ghost use Rattle.std.specs.Int.Signed.{mag};
 ghost use Rattle.std.specs.Fmt.{signed_decimal};
 ghost use Rattle.std.specs.Str.Parse.{AllDigits, digits_value};
@@ -11,7 +12,9 @@ use sheet::fields::Field;
 // The number that decimal digits write, if there is nothing but digits.
 fn digits_value(digits: &[u8]) -> Option<u64>
     requires { length digits.now ≤ 12 }
-    ensures { MatchOption result (AllDigits 10 digits.now → ⊥) (λ n. AllDigits 10 digits.now × (n ≡ digits_value 10 digits.now)) }
+    ensures { MatchOption result
+        (AllDigits 10 digits.now → ⊥)
+        (λ n. AllDigits 10 digits.now × (n ≡ digits_value 10 digits.now)) }
 {
     let mut value = 0u64;
     for b in digits {
@@ -24,7 +27,9 @@ fn digits_value(digits: &[u8]) -> Option<u64>
 // The number whose decimal text the bytes are: digits without a leading zero.
 fn read_digits(digits: &[u8]) -> Option<u64>
     requires { length digits.now ≤ 12 }
-    ensures { MatchOption result ((n : ℕ) → n < 2 ^ 64 → digits.now ≢ decimal n) (λ n. (digits.now ≡ decimal n) × (n < 10 ^ 12)) }
+    ensures { MatchOption result
+        ((n : ℕ) → n < 2 ^ 64 → digits.now ≢ decimal n)
+        (λ n. (digits.now ≡ decimal n) × (n < 10 ^ 12)) }
 {
     match digits {
         [] => None,
@@ -48,7 +53,9 @@ pub fn unpadded(column: &[u8]) -> &[u8]
 // The number whose text the bytes are.
 fn read_number(text: &[u8]) -> Option<i64>
     requires { length text.now ≤ 12 }
-    ensures { MatchOption result ((z : ℤ) → mag z < 2 ^ 63 → text.now ≢ signed_decimal z) (λ z. (text.now ≡ signed_decimal z) × (mag z < 2 ^ 63)) }
+    ensures { MatchOption result
+        ((z : ℤ) → mag z < 2 ^ 63 → text.now ≢ signed_decimal z)
+        (λ z. (text.now ≡ signed_decimal z) × (mag z < 2 ^ 63)) }
 {
     if let [b'-', digits @ ..] = text {
         let n = read_digits(digits)?;

@@ -1,9 +1,7 @@
-use Rattle.std.proofs.Common.{ap, ◌∙◌, subst, arith}
+use Rattle.std.proofs.Common.{ap, arith}
 use Rattle.std.specs.Char.{digit_value}
-use Rattle.std.specs.Str.Parse.{AllDigits, digits_value}
 use Rattle.std.proofs.lemmas.Int.Digits.{digits_value_more, digits_more}
 use Rattle.std.proofs.lemmas.Str.Parse.{digit_at}
-use Rattle.std.proofs.lemmas.List.{take_all}
 use Rattle.sheet_laws.proofs.Columns.{value_below}
 use Rattle.sheet_text.proofs.number.digits_value.Goals as goal
 
@@ -25,8 +23,3 @@ loop-b-preserved c =
     let d = c.in_ok-digit.ensures.value in
     let is = ap digit_value c.from.ensures in
     (digits_more 10 c.args.digits.now c.loop-b.b-index (omega arith) c.loop-b.invariant.0 (omega (arith, d.0, is)), omega (arith, d.1, is, c.from-in-loop-b.ensures))
-
-pub returns : goal.returns
-returns c =
-    let t = take_all c.loop-b.b-index c.args.digits.now (omega arith) in
-    (subst (AllDigits 10) t c.loop-b.invariant.0, c.loop-b.invariant.1 ∙ ap (digits_value 10) t)
