@@ -37,20 +37,17 @@ impl MethodCheck<'_> {
         ensures { result ≡ meaning (place_of self.now.around) operand_use number }
     {
         let around = self.around;
+        let index = |bound: u8| index_below(number, bound).map(Operand::Index);
         match operand_use {
             OperandUse::Unused => (number == 0).then_some(Operand::Nothing),
             OperandUse::Number => Some(Operand::Number(number)),
-            OperandUse::Argument => index_below(number, around.own.arguments).map(Operand::Index),
-            OperandUse::Local => index_below(number, around.own.locals).map(Operand::Index),
+            OperandUse::Argument => index(around.own.arguments),
+            OperandUse::Local => index(around.own.locals),
             OperandUse::Location => below(number, around.count).map(|target| {
                 Operand::Location(PlainLocation::new(target))
             }),
-            OperandUse::OwnMethod => index_below(number, around.shapes.len() as u8).map(
-                Operand::Index,
-            ),
-            OperandUse::LibraryMethod => index_below(number, around.library.len() as u8).map(
-                Operand::Index,
-            ),
+            OperandUse::OwnMethod => index(around.shapes.len() as u8),
+            OperandUse::LibraryMethod => index(around.library.len() as u8),
             OperandUse::WatchedMethod => watched_below(number, around.library).map(Operand::Index),
         }
     }
