@@ -4,10 +4,10 @@
 mod check_explanation;
 mod columns;
 mod explanation;
-mod in_method;
 mod lines;
 mod mnemonic;
 mod number_fault;
+mod own_method;
 mod quoted;
 mod refusal_line;
 pub mod report;
