@@ -1,2 +1,1 @@
 pub mod Columned
-pub mod Numbered

@@ -1,5 +1,5 @@
 // What is told of a sheet that reads and does not pass the check.
-use crate::in_method::InMethod;
+use crate::own_method::OwnMethod;
 use crate::words::Amount;
 use crate::written::Written;
 use check_rules::faults::{CheckFault, MethodFault};
@@ -28,7 +28,7 @@ impl fmt::Display for CheckExplanation<'_> {
                 f,
                 "The sheet has no own method. It must have at least one."
             ),
-            CheckFault::Method(number, fault) => match InMethod::of(self.sheet, number) {
+            CheckFault::Method(number, fault) => match OwnMethod::of(self.sheet, number) {
                 Some(method) => method.write_fault(f, fault),
                 None => Ok(()),
             },
@@ -36,7 +36,7 @@ impl fmt::Display for CheckExplanation<'_> {
     }
 }
 
-impl InMethod<'_> {
+impl OwnMethod<'_> {
     fn write_fault<W: fmt::Write>(
         &self,
         f: &mut fmt::Formatter<W>,

@@ -28,14 +28,11 @@ pub(crate) fn last_column(field: Field) -> usize
 
 // The bytes of a field on a line, or none if the line ends ahead of the field's last column.
 pub(crate) fn field_bytes(line: &[u8], field: Field) -> &[u8]
-    ensures { first_column field + width_of field ≤ length line.now + 1 → result.now ≡ take (width_of field) (drop (first_column field - 1) line.now) }
+    ensures { first_column field + width_of field ≤ length line.now + 1
+        → result.now ≡ take (width_of field) (drop (first_column field - 1) line.now) }
 {
     let begin = first_column(field) - 1;
-    let end = last_column(field);
-    if line.len() < end {
-        return &[];
-    }
-    &line[begin..end]
+    line.get(begin..last_column(field)).unwrap_or(&[])
 }
 
 // How many bytes a line of this letter has, with its letter and its line feed.

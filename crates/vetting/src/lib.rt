@@ -4,9 +4,9 @@
 mod check_explanation;
 mod columns;
 mod explanation;
-mod in_method;
 mod lines;
 mod number_fault;
+mod own_method;
 mod quoted;
 mod refusal_line;
 pub mod report;

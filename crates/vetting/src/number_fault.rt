@@ -1,7 +1,6 @@
 // Why the bytes of a field write no number.
-ghost use Rattle.std.specs.Prelude.{◌≡◌, ◌≢◌, slice_index};
-
 use crate::quoted::Quoted;
+use sheet_text::number::unpadded;
 use std::fmt;
 
 #[derive(Clone, Copy)]
@@ -31,18 +30,6 @@ impl fmt::Display for NumberFault {
             NumberFault::LeadingZero => f.write_str("a leading zero is not allowed"),
         }
     }
-}
-
-// The bytes behind the blanks that stand in front.
-fn unpadded(field: &[u8]) -> &[u8]
-    ensures { slice_index result.now 0 ≢ 32 }
-{
-    for (at, b) in field.iter().enumerate() {
-        if *b != b' ' {
-            return &field[at..];
-        }
-    }
-    &[]
 }
 
 // What is wrong with the digits of a number, if anything is.

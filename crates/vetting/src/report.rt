@@ -22,6 +22,7 @@ use std::fmt;
 
 // Reads a text into one sheet and checks it into the other, and says what was read, or what is wrong with which line or method.
 // The first line of the report on a refused text is for programs, the rest is for people.
+// The two sheets are two parameters: callers own each by itself, and a struct of both would be taken apart at every call.
 pub fn report(
     heap: Global,
     sheet: &mut ReadSheet,
@@ -29,7 +30,9 @@ pub fn report(
     text: &[u8],
 ) -> Result<String, AllocError>
     ensures begins { IfOk result (λ s. Begins (opening (reading text.now)) (string_bytes s)) }
-    ensures after { MatchResult (reading text.now) (λ s. (sheet.new ≡ s) × CheckLeft s checked.new) (λ _. (sheet.new ≡ empty_sheet) × (checked.new ≡ checked.old)) }
+    ensures after { MatchResult (reading text.now)
+        (λ s. (sheet.new ≡ s) × CheckLeft s checked.new)
+        (λ _. (sheet.new ≡ empty_sheet) × (checked.new ≡ checked.old)) }
 {
     match sheet.read(text) {
         Ok(()) => judged(heap, sheet, checked),

@@ -1,7 +1,7 @@
 // What is told of a sheet behind the words "The sheet passes".
 ghost use Rattle.std.specs.Prelude.{◌≡◌, count_by};
 
-use crate::in_method::InMethod;
+use crate::own_method::OwnMethod;
 use crate::words::Amount;
 use sheet::records::Signature;
 use sheet_text::reading::TextSheet;
@@ -14,7 +14,7 @@ impl fmt::Display for Summary<'_> {
     fn fmt<W: fmt::Write>(&self, f: &mut fmt::Formatter<W>) -> fmt::Result {
         let sheet = self.0;
         write_totals(f, sheet)?;
-        for method in (0..sheet.method_count()).filter_map(|number| InMethod::of(sheet, number)) {
+        for method in (0..sheet.method_count()).filter_map(|number| OwnMethod::of(sheet, number)) {
             write_method(f, &method)?;
         }
         Ok(())
@@ -40,7 +40,7 @@ fn write_totals<W: fmt::Write>(f: &mut fmt::Formatter<W>, sheet: &TextSheet) -> 
     )
 }
 
-fn write_method<W: fmt::Write>(f: &mut fmt::Formatter<W>, method: &InMethod) -> fmt::Result {
+fn write_method<W: fmt::Write>(f: &mut fmt::Formatter<W>, method: &OwnMethod) -> fmt::Result {
     let number = method.number;
     let arguments = method.arguments();
     let value = if method.shape.gives {

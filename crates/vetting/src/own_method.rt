@@ -5,17 +5,17 @@ use sheet::records::{Handler, ReadInstruction, Shape};
 use sheet_text::reading::TextSheet;
 
 #[derive(Drop)]
-pub(crate) struct InMethod<'a> {
+pub(crate) struct OwnMethod<'a> {
     pub(crate) sheet: &'a TextSheet,
     pub(crate) number: usize,
     pub(crate) shape: Shape,
 }
 
-impl<'a> InMethod<'a> {
+impl<'a> OwnMethod<'a> {
     // None where the sheet has no such method.
-    pub(crate) fn of(sheet: &'a TextSheet, number: usize) -> Option<InMethod<'a>> {
+    pub(crate) fn of(sheet: &'a TextSheet, number: usize) -> Option<OwnMethod<'a>> {
         let shape = sheet.shape(number)?;
-        Some(InMethod {
+        Some(OwnMethod {
             sheet,
             number,
             shape,
