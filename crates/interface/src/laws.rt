@@ -5,22 +5,16 @@ ghost use Rattle.interface.specs.Equality.{LibrariesStayEqual, PoliciesStayEqual
 use crate::parties::{Library, Policy};
 
 // Equal libraries answer every list of calls alike and are equal afterwards.
-pub fn equal_libraries_stand<L: Library>() -> u8
+pub fn equal_libraries_stand<L: Library>()
     ensures { LibrariesStayEqual L.Library.State }
-{
-    0
-}
+{}
 
 // Equal policies answer every list of questions alike and are equal afterwards.
-pub fn equal_policies_stand<P: Policy>() -> u8
+pub fn equal_policies_stand<P: Policy>()
     ensures { PoliciesStayEqual P.Policy.State }
-{
-    0
-}
+{}
 
 // Up to seven values can be read back from an entry.
-pub fn seven_values_stand() -> u8
+pub fn seven_values_stand()
     ensures { KeepsUpToSeven }
-{
-    0
-}
+{}
