@@ -59,6 +59,7 @@ fn read_number(text: &[u8]) -> Option<i64>
 {
     if let [b'-', digits @ ..] = text {
         let n = read_digits(digits)?;
+        // A plain test: with `filter` the case of no number was left open by the prover's search.
         if n == 0 {
             return None;
         }
@@ -81,6 +82,7 @@ pub(crate) fn judge(field: Field, number: Option<i64>) -> Result<i32, FieldFault
     ensures { result ≡ judged field number }
 {
     let number = number.ok_or(FieldFault::NoNumber(field))?;
+    // Two comparisons: `contains` of a range was tried, and the prover's search stopped at its limits.
     if number < i64::from(field.least()) || i64::from(field.greatest()) < number {
         return Err(FieldFault::OutOfRange(field));
     }
