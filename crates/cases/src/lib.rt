@@ -38,7 +38,9 @@ impl<'a> Iterator for Cases<'a> {
 
     type Item = Case<'a>;
 
-    ghost next_gives = { λ s r t. MatchOption r ((t ≡ s) × HasNoCase s.0.now) (λ c. IsFirstCase s.0.now c.text.now c.comment.now t.0.now) };
+    ghost next_gives = { λ s r t. MatchOption r
+        ((t ≡ s) × HasNoCase s.0.now)
+        (λ c. IsFirstCase s.0.now c.text.now c.comment.now t.0.now) };
 
     ghost remaining = { λ s. at_most (length s.0.now) };
 

@@ -5,9 +5,10 @@
 use large_texts::largest;
 use sheet_text::read_sheet::ReadSheet;
 use std::env;
+use std::rt::Clock;
 use std::time::Instant;
 
-fn measure(rt: &HostRuntime, rounds: u32) -> anyhow::Result<()> {
+fn measure(rt: &(impl Clock + Print + AllocGlobal), rounds: u32) -> anyhow::Result<()> {
     let heap = rt.alloc();
     let text = largest(heap)?;
     let mut sheet = ReadSheet::new(heap)?;
