@@ -27,7 +27,8 @@ pub fn record_at<T: Copy>(records: &[T], index: u8, absent: T) -> T
     records.get(usize::from(index)).copied().unwrap_or(absent)
 }
 
-// The method that an operand of this use names, as its callers see it.
+// The method that an operand of this use names, as its callers see it. No `From` of a shape: that nobody watches an own method
+// is said of it here alone.
 fn named_method(around: Around<'_>, operand_use: OperandUse, index: u8) -> Signature
     ensures { result ≡ named (place_of around.entry) operand_use index }
 {

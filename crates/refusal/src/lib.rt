@@ -6,7 +6,8 @@ ghost use Rattle.refusal.specs.Refusals.{refusal_text};
 
 use std::fmt;
 
-// Its number and its two places.
+// Its number and its two places. The number is the one that programs read and people look up; the faults that it is made
+// from are enums.
 #[derive(Clone, Copy, Debug, PartialEq, Eq)]
 pub struct Refusal {
     pub number: u8,

@@ -48,7 +48,8 @@ pub enum LineFault {
     Count(Counted),
 }
 
-// Why a text is not read, or a sheet not written.
+// Why a text is not read, or a sheet not written. It has no Display: what people are told of a fault quotes the text that it
+// was found in, which the crate `vetting` has.
 #[derive(Clone, Copy, Debug, PartialEq, Eq)]
 pub enum SheetFault {
     // The first faulty line of the text, counted from 0, and what is wrong with it.
@@ -90,7 +91,7 @@ impl From<Counted> for LineFault {
 }
 
 impl LineFault {
-    // The number of its refusal.
+    // The number of its refusal. A method and no `From`: a number without its place says too little.
     pub fn number(self) -> u8
         ensures { result ≡ line_number self }
     {

@@ -1,7 +1,8 @@
 ghost use Rattle.std.specs.Prelude.{◌≡◌};
 
 // A location of the sheet as it was handed in: the number of an instruction within its method.
-// Locations after weaving have a type of their own, so that one is never taken for the other.
+// Locations after weaving have a type of their own, so that one is never taken for the other: a model that shows the bare
+// number would make the two one type to every definition, so contracts see the record.
 #[derive(Clone, Copy, Debug, PartialEq, Eq)]
 pub struct PlainLocation {
     number: u16,
