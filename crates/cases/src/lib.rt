@@ -52,14 +52,14 @@ impl<'a> Iterator for Cases<'a> {
     }
 }
 
-// The table that stands on standard input. No clause says which bytes come from there.
+// The table that stands on standard input, cut at the most. No clause says which bytes come from there, or how many.
 pub fn read_table<R: Input + AllocGlobal>(rt: &R) -> io::Result<Vec<u8>> {
     let mut table = Vec::new(rt.alloc());
     rt.reader().take(MOST_BYTES).read_to_end(&mut table)?;
     Ok(table)
 }
 
-// A line for a case: its number, the counts of the sheet that came of it or its refusal, and its comment.
+// Prints a line for a case, so that no clause says which: its number, the counts of the sheet that came of it or its refusal, and its comment.
 pub fn print_answer<I: Copy, H: Copy>(
     rt: &impl Print,
     number: usize,

@@ -23,7 +23,9 @@ pub fn returns<L: Library>(
     values: &[Value],
     n: i32,
 ) -> Result<(), Fail> {
-    same(library.call(method, values), LibraryAnswer::Return(n))
+    let answer = library.call(method, values);
+    same(answer, LibraryAnswer::Return(n))?;
+    same((answer.flag(), answer.number(true)), (0, n))
 }
 
 // The library raises this code.
@@ -33,12 +35,16 @@ pub fn raises<L: Library>(
     values: &[Value],
     code: i32,
 ) -> Result<(), Fail> {
-    same(library.call(method, values), LibraryAnswer::Raise(code))
+    let answer = library.call(method, values);
+    same(answer, LibraryAnswer::Raise(code))?;
+    same((answer.flag(), answer.number(true)), (1, code))
 }
 
 // The policy passes.
 pub fn passes<P: Policy>(policy: &mut P, kind: QuestionKind, method: u8) -> Result<(), Fail> {
-    same(policy.ask(kind, method, &[]), PolicyAnswer::Pass)
+    let answer = policy.ask(kind, method, &[]);
+    same(answer, PolicyAnswer::Pass)?;
+    same((answer.flag(), answer.number()), (0, 0))
 }
 
 // The policy stops with this code.
@@ -48,5 +54,7 @@ pub fn stops<P: Policy>(
     method: u8,
     code: i32,
 ) -> Result<(), Fail> {
-    same(policy.ask(kind, method, &[]), PolicyAnswer::Stop(code))
+    let answer = policy.ask(kind, method, &[]);
+    same(answer, PolicyAnswer::Stop(code))?;
+    same((answer.flag(), answer.number()), (1, code))
 }

@@ -1,5 +1,5 @@
 -- The rule of the chart, over the list of its arrows, and the drawing of an arrow. Assumes nothing.
-use Rattle.std.specs.Prelude.{◌≡◌, ℕ, ◌+◌, ◌-◌, ◌*◌, ◌<◌, Bool, true, if◌then◌else◌, ◌&&◌, List, length, replicate, pos, Some, None, Ok, Err, Option, Result, nat_lt, slice_index_or, slice_set}
+use Rattle.std.specs.Prelude.{◌≡◌, ℕ, ◌+◌, ◌-◌, ◌*◌, ◌<◌, Bool, true, if◌then◌else◌, ◌&&◌, List, length, replicate, pos, Some, None, Ok, Err, Option, Result, nat_lt, slice_index_or, slice_set, codes}
 use Rattle.interface.specs.Answers.{kind_number, kind_numbered}
 use Rattle.interface.specs.Rules.{PolicyRule}
 use Rattle.interface.specs.declared.answers.QuestionKind.{QuestionKind}
@@ -86,3 +86,10 @@ drawn arrows from number m to =
 -- every refusal of an arrow has number 17 and no place
 abbrev pub arrow_refusal : ArrowFault → Refusal
 arrow_refusal fault = record { number = 17; first = 0; second = 0 }
+
+-- what is printed of each fault
+abbrev pub arrow_words : ArrowFault → List ℕ
+arrow_words NoSuchBox = codes "the boxes of a chart are 0 to 15"
+arrow_words NoSuchKind = codes "the kinds of questions are 2 to 4"
+arrow_words NoSuchMethod = codes "the methods of a chart are 0 to 31"
+arrow_words AlreadyThere = codes "an arrow leaves that box on that kind and method already"

@@ -1,5 +1,5 @@
-ghost use Rattle.std.specs.Prelude.{◌≡◌};
-ghost use Rattle.policies.specs.Chart.{arrow_refusal};
+ghost use Rattle.std.specs.Prelude.{◌≡◌, Some};
+ghost use Rattle.policies.specs.Chart.{arrow_refusal, arrow_words};
 
 use refusal::Refusal;
 use std::error::Error;
@@ -31,6 +31,8 @@ impl From<ArrowFault> for Refusal {
 }
 
 impl fmt::Display for ArrowFault {
+    ghost output = { λ fault. Some (arrow_words fault) };
+
     fn fmt<W: fmt::Write>(&self, f: &mut fmt::Formatter<W>) -> fmt::Result {
         f.write_str(match self {
             ArrowFault::NoSuchBox => "the boxes of a chart are 0 to 15",

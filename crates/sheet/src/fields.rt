@@ -1,4 +1,4 @@
-ghost use Rattle.std.specs.Prelude.{◌≡◌, Some};
+ghost use Rattle.std.specs.Prelude.{◌≡◌, ◌+◌, Some};
 ghost use Rattle.std.specs.Option.{ok_or};
 ghost use Rattle.sheet.specs.Fields.{width_of, lowest, highest, letter_byte, letter_of, widths, fields_of};
 ghost use Rattle.sheet.specs.Names.{field_name};
@@ -134,5 +134,12 @@ impl Letter {
             Letter::M => 24,
             Letter::X => 30,
         }
+    }
+
+    // How many bytes such a line has, with its letter and its line feed.
+    pub fn line_length(self) -> usize
+        ensures { result ≡ 2 + widths (fields_of self) }
+    {
+        2 + self.columns()
     }
 }

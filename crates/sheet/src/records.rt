@@ -1,4 +1,4 @@
-ghost use Rattle.std.specs.Prelude.{◌≡◌};
+ghost use Rattle.std.specs.Prelude.{◌≡◌, ◌+◌};
 ghost use Rattle.std.specs.Option.{ok_or};
 ghost use Rattle.sheet.specs.Numbers.{kind_number, kind_numbered, unknown};
 
@@ -21,6 +21,15 @@ pub struct Shape {
     pub gives: bool,
     pub locals: u8,
     pub stack_limit: u8,
+}
+
+impl Shape {
+    // How many cells a call of such a method has: its arguments, its locals and its stack.
+    pub fn cells(self) -> u16
+        ensures { result ≡ self.arguments + self.locals + self.stack_limit }
+    {
+        u16::from(self.arguments) + u16::from(self.locals) + u16::from(self.stack_limit)
+    }
 }
 
 // An instruction as the text has it: any operand goes, and the check says what it means.

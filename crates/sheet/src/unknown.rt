@@ -1,7 +1,7 @@
 use std::error::Error;
 use std::fmt;
 
-// A number that no op, or no kind of handler, has.
+// A number that no op, or no kind of handler, has. The parties know no sheet, so their kinds of questions have an error of their own.
 #[derive(Clone, Copy, Debug, PartialEq, Eq)]
 pub struct UnknownNumber {
     pub number: u8,

@@ -1,0 +1,30 @@
+#!/usr/bin/env bash
+# Counts the places that docs/DESIGN-PASS.md speaks of, by text alone, in the src/ of every crate below a folder (this one without one).
+# With -v it lists them. What a command finds is a place to look at, not a fault.
+set -euo pipefail
+list=
+[ "${1:-}" = -v ] && { list=1; shift; }
+cd "${1:-.}"
+show() { # NAME PATTERN
+    local found
+    found=$(grep -rnE "$2" crates/*/src || true)
+    printf '%-28s %s\n' "$1" "$(printf '%s' "$found" | grep -c . || true)"
+    [ -z "$list" ] || printf '%s\n' "$found" | sed 's/^/    /'
+}
+show '1 number functions' 'fn (number|numbered|flag|of|byte|refusal)\('
+show '1 numbers as errors' 'Result<[^;]*, (u8|u16|u32|usize|i32)>'
+show '1 number fields' '^    pub (kind|number|flag): (u8|i32),'
+show '1 enums' '^(pub(\(crate\))? )?enum '
+show '3 loops and counts' 'for [a-z_]+ in 0\.\.|\.enumerate\(\)|while |[+-]= 1;'
+show '4 bare derives' 'derive\(Clone, Copy\)'
+show '4 printing functions' "fn write_[a-z_]+<W|-> &'static str"
+show '4 casts' ' as (u8|u16|u32|i32|i64|usize)\b'
+show '5 facts in three contracts' 'requires (few_shapes|few_library_methods|few_instructions|own_shape|out_fits|method_exists|method_room|code_room|handler_room|fresh_out|catches_inside)'
+show '5 views of sheets' 'ensures.*(sheet_of|methods_of)|requires.*(sheet_of|methods_of)'
+show '5 private fields' '(ensures|requires)[^{]*\{.*\.(codes|arrows|left|places|first|second|stored)\b'
+show '5 buffer and place' 'out: &mut \[u8\], at: usize'
+show '6 fixed arrays' '\[[A-Za-z0-9:_ ]+; [0-9]+\]'
+show '6 counts in structs' '^    (pub )?count: '
+show '7 dyn and fn pointers' '\bdyn |: fn\('
+echo "8 lines of proofs              $(find crates/*/proofs -name '*.antt' -print0 | xargs -0 cat | wc -l)"
+echo "8 files of proofs              $(find crates/*/proofs -name '*.antt' | wc -l)"
