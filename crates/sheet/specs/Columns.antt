@@ -11,11 +11,6 @@ use Rattle.sheet.specs.declared.faults.FieldFault.TheVariants.{NoNumber, OutOfRa
 abbrev pub column : ℕ → List ℕ → List ℕ
 column w t = replicate (w - length t) 32 ++ t
 
--- the sign in front of a number
-abbrev pub minus_text : Bool → List ℕ
-minus_text true = 45 ∷ []
-minus_text false = []
-
 -- two texts are the same
 abbrev pub same_text : List ℕ → List ℕ → Bool
 same_text [] [] = true

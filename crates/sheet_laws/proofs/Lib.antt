@@ -1,10 +1,8 @@
 pub mod Columns
 pub mod Held
-pub mod Forms
 pub mod Adds
 pub mod Splits
 pub mod Places
-pub mod Signs
 pub mod Numbering
 pub mod Numerals
 pub mod Says

@@ -1,5 +1,5 @@
 -- A list that the methods share, and the part of it that is a method's. Assumes nothing.
-use Rattle.std.proofs.Common.{◌≡◌, ℕ, zero, suc, ◌+◌, ◌-◌, ◌<◌, ◌≤◌, List, [], ◌∷◌, ◌++◌, length, take, drop, sym, ap, ◌∙◌, arith}
+use Rattle.std.proofs.Common.{◌≡◌, ℕ, zero, suc, ◌+◌, ◌-◌, ◌≤◌, List, [], ◌∷◌, ◌++◌, length, take, drop, sym, ap, ◌∙◌, arith}
 use Rattle.std.proofs.lemmas.List.{length-drop, length-take, take-append-le, drop-append-le, drop_at, take_rest}
 use Rattle.std.specs.List.{between}
 use Rattle.sheet_store.specs.Tiles.{begin, start, Ordered, IsTiled}
@@ -19,21 +19,11 @@ module _ (p : Part) where
   bounded (h ∷ hs) zero n o = (o.0, start_within hs n o.1)
   bounded (h ∷ hs) (suc k) n o = bounded hs k n o.1
 
-  -- more behind all
-  pub ordered_more : (hs : List Header) (n n' : ℕ) → n ≤ n' → Ordered p hs n → Ordered p hs n'
-  ordered_more [] n n' l o = tt
-  ordered_more (h ∷ []) n n' l o = (omega (arith, o.0), tt)
-  ordered_more (h ∷ (k ∷ hs)) n n' l o = (o.0, ordered_more (k ∷ hs) n n' l o.1)
-
   -- a method more, behind all
   pub ordered_added : (hs : List Header) (h : Header) (n n' : ℕ) → begin p h ≡ n → n ≤ n' → Ordered p hs n → Ordered p (hs ++ h ∷ []) n'
   ordered_added [] h n n' e l o = (omega arith, tt)
   ordered_added (k ∷ []) h n n' e l o = (omega (arith, o.0), ordered_added [] h n n' e l tt)
   ordered_added (k ∷ (j ∷ hs)) h n n' e l o = (o.0, ordered_added (j ∷ hs) h n n' e l o.1)
-
-  pub tiled_more : (hs : List Header) (n n' : ℕ) → 0 < length hs → n ≤ n' → IsTiled p hs n → IsTiled p hs n'
-  tiled_more [] n n' s l t = absurd (omega arith)
-  tiled_more (h ∷ hs) n n' s l t = record { in_order = ordered_more (h ∷ hs) n n' l t.in_order; from_zero = t.from_zero }
 
   pub tiled_added : (hs : List Header) (h : Header) (n n' : ℕ) → begin p h ≡ n → n ≤ n' → IsTiled p hs n → IsTiled p (hs ++ h ∷ []) n'
   tiled_added [] h n n' e l t = record { in_order = ordered_added [] h n n' e l tt; from_zero = omega (arith, t.from_zero) }
