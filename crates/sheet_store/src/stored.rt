@@ -1,5 +1,5 @@
 // A sheet in storage, and what can be done with it: made, emptied, added to at its end, looked at.
-ghost use Rattle.std.specs.Prelude.{◌≡◌, ℕ, ◌+◌, ◌<◌, ◌≤◌, [], ◌∷◌, ◌++◌, length, IfOk, vec_len, vec_capacity, MatchResult, drop};
+ghost use Rattle.std.specs.Prelude.{◌≡◌, ℕ, ◌+◌, ◌<◌, ◌≤◌, [], ◌∷◌, ◌++◌, length, IfOk, IfErr, OnOk, OnErr, vec_len, drop};
 ghost use Rattle.std.specs.List.{slice_get};
 ghost use Rattle.std.specs.Option.{option_map};
 ghost use Rattle.sheet.specs.View.{empty_sheet, with_library, with_methods, on_last, with_code, with_handlers, pushed, bare, instructions_in, handlers_in, method_at, last_method};
@@ -14,17 +14,18 @@ use std::error::Error;
 use std::fmt;
 use std::marker::Model;
 
-// How many of each a sheet may have.
-const LIBRARY_METHODS: usize = 32;
+// How many of each a sheet may have, of instructions and handlers in all its methods together.
+pub const LIBRARY_METHODS: usize = 32;
 
-const OWN_METHODS: usize = 16;
+pub const OWN_METHODS: usize = 16;
 
-const INSTRUCTIONS: usize = 2048;
+pub const INSTRUCTIONS: usize = 2048;
 
-const HANDLERS: usize = 256;
+pub const HANDLERS: usize = 256;
 
 // An own method in storage: where its code and its handlers begin.
 // They end where the next method's begin.
+// Beginnings into two lists, not lists of its own: memory is reserved once, for all methods together.
 #[derive(Clone, Copy)]
 struct Header {
     shape: Shape,
@@ -33,6 +34,7 @@ struct Header {
 }
 
 // A part of a method: its code, or its handlers.
+// It is there so that the invariant of the beginnings and its lemmas are stated once, for both parts.
 #[derive(Clone, Copy)]
 enum Part {
     Code,
@@ -129,48 +131,58 @@ impl<I: Copy, H: Copy> StoredSheet<I, H> {
 
     // The library methods.
     pub fn library(&self) -> &[Signature]
-        ensures { (result.now ≡ self.now.library) × (length result.now ≤ 32) }
+        ensures value { result.now ≡ self.now.library }
+        ensures few { length result.now ≤ 32 }
     {
         &self.library[..]
     }
 
     // How many own methods there are.
     pub fn method_count(&self) -> usize
-        ensures { (result ≡ length self.now.methods) × (result ≤ 16) }
+        ensures value { result ≡ length self.now.methods }
+        ensures few { result ≤ 16 }
     {
         self.methods.len()
     }
 
     // How many instructions there are, in all methods.
     pub fn instruction_count(&self) -> usize
-        ensures { (result ≡ instructions_in self.now.methods) × (result ≤ 2048) }
+        ensures value { result ≡ instructions_in self.now.methods }
+        ensures few { result ≤ 2048 }
     {
         self.code.len()
     }
 
     // How many handlers there are, in all methods.
     pub fn handler_count(&self) -> usize
-        ensures { (result ≡ handlers_in self.now.methods) × (result ≤ 256) }
+        ensures value { result ≡ handlers_in self.now.methods }
+        ensures few { result ≤ 256 }
     {
         self.handlers.len()
     }
 
     // One library method more; a sheet that has no place for it is left as it is.
+    // Of the faults only Full can come.
     pub fn add_signature(&mut self, signature: Signature) -> Result<(), AddFault>
-        ensures { MatchResult result
-            (λ _. (length self.old.library < 32)
-            × (self.new ≡ with_library (pushed signature self.old.library) self.old))
-            (λ e. (e ≡ AddFault.Full) × (length self.old.library ≡ 32) × (self.new ≡ self.old)) }
+        ensures ok { OnOk result
+            (self.new ≡ with_library (pushed signature self.old.library) self.old) }
+        ensures room { OnOk result (length self.old.library < 32) }
+        ensures err { IfErr result (λ e. e ≡ AddFault.Full) }
+        ensures full { OnErr result (length self.old.library ≡ 32) }
+        ensures unchanged { OnErr result (self.new ≡ self.old) }
     {
         push_within(&mut self.library, LIBRARY_METHODS, signature)
     }
 
     // One own method more, without instructions and handlers; a sheet that has no place for it is left as it is.
+    // Of the faults only Full can come.
     pub fn add_method(&mut self, shape: Shape) -> Result<(), AddFault>
-        ensures { MatchResult result
-            (λ _. (length self.old.methods < 16)
-            × (self.new ≡ with_methods (pushed (bare shape) self.old.methods) self.old))
-            (λ e. (e ≡ AddFault.Full) × (length self.old.methods ≡ 16) × (self.new ≡ self.old)) }
+        ensures ok { OnOk result
+            (self.new ≡ with_methods (pushed (bare shape) self.old.methods) self.old) }
+        ensures room { OnOk result (length self.old.methods < 16) }
+        ensures err { IfErr result (λ e. e ≡ AddFault.Full) }
+        ensures full { OnErr result (length self.old.methods ≡ 16) }
+        ensures unchanged { OnErr result (self.new ≡ self.old) }
     {
         let header = Header {
             shape,
@@ -182,12 +194,13 @@ impl<I: Copy, H: Copy> StoredSheet<I, H> {
 
     // One instruction more in the last method; a sheet without a method, or without a place for it, is left as it is.
     pub fn add_instruction(&mut self, instruction: I) -> Result<(), AddFault>
-        ensures { MatchResult result
-            (λ _. (0 < length self.old.methods) × (instructions_in self.old.methods < 2048)
-            × (self.new
-            ≡ with_methods (on_last (with_code (pushed instruction)) self.old.methods) self.old))
-            (λ e. AddRefused e (length self.old.methods) (instructions_in self.old.methods) 2048
-            × (self.new ≡ self.old)) }
+        ensures ok { OnOk result (self.new
+            ≡ with_methods (on_last (with_code (pushed instruction)) self.old.methods) self.old) }
+        ensures method { OnOk result (0 < length self.old.methods) }
+        ensures room { OnOk result (instructions_in self.old.methods < 2048) }
+        ensures err { IfErr result (λ e.
+            AddRefused e (length self.old.methods) (instructions_in self.old.methods) 2048) }
+        ensures unchanged { OnErr result (self.new ≡ self.old) }
     {
         if self.methods.is_empty() {
             return Err(AddFault::NoMethod);
@@ -197,12 +210,13 @@ impl<I: Copy, H: Copy> StoredSheet<I, H> {
 
     // One handler more in the last method; a sheet without a method, or without a place for it, is left as it is.
     pub fn add_handler(&mut self, handler: H) -> Result<(), AddFault>
-        ensures { MatchResult result
-            (λ _. (0 < length self.old.methods) × (handlers_in self.old.methods < 256)
-            × (self.new
-            ≡ with_methods (on_last (with_handlers (pushed handler)) self.old.methods) self.old))
-            (λ e. AddRefused e (length self.old.methods) (handlers_in self.old.methods) 256
-            × (self.new ≡ self.old)) }
+        ensures ok { OnOk result (self.new
+            ≡ with_methods (on_last (with_handlers (pushed handler)) self.old.methods) self.old) }
+        ensures method { OnOk result (0 < length self.old.methods) }
+        ensures room { OnOk result (handlers_in self.old.methods < 256) }
+        ensures err { IfErr result (λ e.
+            AddRefused e (length self.old.methods) (handlers_in self.old.methods) 256) }
+        ensures unchanged { OnErr result (self.new ≡ self.old) }
     {
         if self.methods.is_empty() {
             return Err(AddFault::NoMethod);
@@ -212,12 +226,12 @@ impl<I: Copy, H: Copy> StoredSheet<I, H> {
 
     // One own method more, with its instructions and handlers; a sheet that has no place for them is left as it is.
     pub fn add_whole(&mut self, shape: Shape, code: &[I], handlers: &[H]) -> Result<(), AddFault>
-        ensures { MatchResult result
-            (λ _. self.new
-            ≡ with_methods (pushed (whole shape code.now handlers.now) self.old.methods) self.old)
-            (λ e. (e ≡ AddFault.Full)
-            × NoRoom self.old.methods (length code.now) (length handlers.now)
-            × (self.new ≡ self.old)) }
+        ensures ok { OnOk result (self.new
+            ≡ with_methods (pushed (whole shape code.now handlers.now) self.old.methods) self.old) }
+        ensures err { IfErr result (λ e. e ≡ AddFault.Full) }
+        ensures full { OnErr result
+            (NoRoom self.old.methods (length code.now) (length handlers.now)) }
+        ensures unchanged { OnErr result (self.new ≡ self.old) }
     {
         let code_begin = self.code.len();
         let handlers_begin = self.handlers.len();
@@ -237,9 +251,10 @@ impl<I: Copy, H: Copy> StoredSheet<I, H> {
 
     // Empty but for this library; a library that is too large leaves the sheet as it is.
     pub fn restart(&mut self, library: &[Signature]) -> Result<(), AddFault>
-        ensures { MatchResult result
-            (λ _. self.new ≡ record { library = library.entry.now; methods = [] })
-            (λ e. (e ≡ AddFault.Full) × (32 < length library.entry.now) × (self.new ≡ self.old)) }
+        ensures ok { OnOk result (self.new ≡ record { library = library.now; methods = [] }) }
+        ensures err { IfErr result (λ e. e ≡ AddFault.Full) }
+        ensures full { OnErr result (32 < length library.now) }
+        ensures unchanged { OnErr result (self.new ≡ self.old) }
     {
         if library.len() > LIBRARY_METHODS {
             return Err(AddFault::Full);
@@ -286,10 +301,12 @@ impl<I: Copy, H: Copy> StoredSheet<I, H> {
 // One more in a list that may have so many; a full one is left as it is.
 fn push_within<T: Copy>(list: &mut Vec<T>, most: usize, x: T) -> Result<(), AddFault>
     requires { HasRoom most list.old }
-    ensures room { HasRoom most list.new }
-    ensures added { MatchResult result
-        (λ _. (vec_len list.old < most) × (list.new.items ≡ pushed x list.old.items))
-        (λ e. (e ≡ AddFault.Full) × (vec_len list.old ≡ most) × (list.new ≡ list.old)) }
+    ensures reserved { HasRoom most list.new }
+    ensures ok { OnOk result (list.new.items ≡ pushed x list.old.items) }
+    ensures room { OnOk result (vec_len list.old < most) }
+    ensures err { IfErr result (λ e. e ≡ AddFault.Full) }
+    ensures full { OnErr result (vec_len list.old ≡ most) }
+    ensures unchanged { OnErr result (list.new ≡ list.old) }
 {
     if list.len() >= most {
         return Err(AddFault::Full);
@@ -303,7 +320,8 @@ fn bounds(headers: &[Header], method: usize, part: Part, n: usize) -> (usize, us
     requires { Ordered part headers.now n }
     ensures begins { result.0 ≡ start part (drop method headers.now) n }
     ensures ends { result.1 ≡ start part (drop 1 (drop method headers.now)) n }
-    ensures within { (result.0 ≤ result.1) × (result.1 ≤ n) }
+    ensures in_order { result.0 ≤ result.1 }
+    ensures within { result.1 ≤ n }
 {
     match headers.get(method..) {
         Some([this, next, ..]) => (this.begin(part), next.begin(part)),
