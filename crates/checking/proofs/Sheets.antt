@@ -1,5 +1,5 @@
 -- The check of a whole sheet, method by method. Assumes nothing.
-use Rattle.std.proofs.Common.{◌≡◌, ℕ, suc, ◌+◌, ◌<◌, ◌≤◌, true, List, [], ◌∷◌, ◌++◌, map, length, get_or, take, drop, Some, Ok, Err, Result, option_map, slice_get, is_err, false, MatchResult, IsOk, OnOk, inl, inr, sym, refl, ap, ◌∙◌, arith}
+use Rattle.std.proofs.Common.{◌≡◌, ℕ, suc, ◌+◌, ◌<◌, ◌≤◌, true, List, [], ◌∷◌, ◌++◌, map, length, get_or, take, drop, Some, Ok, Err, Result, option_map, slice_get, is_err, false, IsOk, OnOk, OnErr, inl, inr, sym, refl, ap, ◌∙◌, arith}
 use Rattle.std.proofs.lemmas.List.{at_drop_more, get_or-map, length-map, length-take-le, take-append-drop, take_more}
 use Rattle.std.proofs.lemmas.Option.{slice_get-get_or}
 use Rattle.sheet.specs.Bounds.{in_range}
@@ -136,9 +136,9 @@ made_more r k s t c xs ss m p q w inside made e there = record {
 }
 
 -- a call that answers `Ok`, since what it says of an `Err` is false
-pub ok_unless : {T E : Type 0} (r : Result T E) (P : T → Type 0) (Q : E → Type 0) → MatchResult r P Q → ((e : E) → ¬ Q e) → IsOk r
-ok_unless (Ok x) P Q m no_err = refl
-ok_unless (Err e) P Q m no_err = absurd (no_err e m)
+pub ok_unless : {T E P : Type 0} (r : Result T E) → OnErr r P → ¬ P → IsOk r
+ok_unless (Ok x) m no_err = refl
+ok_unless (Err e) m no_err = absurd (no_err m)
 
 -- what the check leaves in a sheet passes it
 pub left_checked : (read : TextSheet) (s : CheckedForm) (r : Result (Unit {0}) CheckFault) → OnOk r (checked read ≡ Ok s) → is_err r ≡ false → AllChecked s

@@ -11,7 +11,7 @@ pub invariant_of-result : goal.invariant_of-result
 invariant_of-result c =
     let sheet = c.args.self.now in
     record {
-      few_library_methods = c.library.ensures.1;
+      few_library_methods = c.library.ensures.few;
       few_shapes = omega (arith, ap length sheet.own_shapes, length-map sheet.read.now.methods (λ m. m.shape), (within_from sheet.read.now sheet.read_in_range).methods);
       few_instructions = omega (arith, few_instructions sheet.read.now c.args.number sheet.read_in_range c.requires, ap length c.code-read.ensures);
       own_count = refl;

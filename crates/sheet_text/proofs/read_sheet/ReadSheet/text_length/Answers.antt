@@ -7,6 +7,6 @@ pub returns : goal.returns
 returns c = omega (
   arith,
   text_long c.contents-sheet.result.now c.contents-sheet.ensures.1,
-  ap length c.library.ensures.0,
+  ap length c.library.ensures.value,
   ap (λ s. length (sheet_text s)) c.contents-sheet.ensures.0,
 )
