@@ -11,8 +11,8 @@ use interface::parties::Library;
 use interface::value::Value;
 use std::marker::Model;
 
-// A map from up to 32 keys to values. Its bindings stand in the order of their keys, so that the same keys and values
-// always stand the same way.
+// A map from up to 32 keys to values. Its bindings stand in the order of their keys, so that the
+// same keys and values always stand the same way. A call takes no heap, which a BTreeMap would.
 #[derive(Drop)]
 pub struct Index {
     bindings: ArrayVec<Binding, 32>,
