@@ -22,7 +22,7 @@ pub struct Case<'a> {
 #[derive(Drop)]
 pub struct Cases<'a>(pub &'a [u8]);
 
-// What stands ahead of the first such byte, and what stands behind it.
+// What stands ahead of the first such byte, and what stands behind it. std has this for text only.
 fn split_once(bytes: &[u8], byte: u8) -> Option<(&[u8], &[u8])>
     ensures found { IfSome result (λ p. IsSplit bytes.now byte p.0.now p.1.now) }
     ensures absent { IfNone result (Contains bytes.now byte → ⊥) }
@@ -52,14 +52,16 @@ impl<'a> Iterator for Cases<'a> {
     }
 }
 
-// The table that stands on standard input, cut at the most. No clause says which bytes come from there, or how many.
+// The table that stands on standard input, cut at the most. No clause says which bytes come from
+// there, or how many.
 pub fn read_table<R: Input + AllocGlobal>(rt: &R) -> io::Result<Vec<u8>> {
     let mut table = Vec::new(rt.alloc());
     rt.reader().take(MOST_BYTES).read_to_end(&mut table)?;
     Ok(table)
 }
 
-// Prints a line for a case, so that no clause says which: its number, the counts of the sheet that came of it or its refusal, and its comment.
+// Prints a line for a case, so that no clause says which: its number, the counts of the sheet that
+// came of it or its refusal, and its comment.
 pub fn print_answer<I: Copy, H: Copy>(
     rt: &impl Print,
     number: usize,

@@ -18,7 +18,8 @@ fn answer<'a>(
     Ok(checked.contents())
 }
 
-// All cases are checked into one sheet, so that each also shows that the one ahead of it left nothing behind.
+// All cases are checked into one sheet, so that each also shows that the one ahead of it left
+// nothing behind.
 fn main(rt: HostRuntime) -> io::Result<()> {
     let table = read_table(&rt)?;
     let mut sheet = ReadSheet::new(rt.alloc())?;

@@ -50,7 +50,8 @@ impl fmt::Display for UnknownKind {
 
 impl Error for UnknownKind {}
 
-// What a library answers to a call. By a rule of the project, answers are enums whose cases carry the code: no Result.
+// What a library answers to a call. By a rule of the project, answers are enums whose cases carry
+// the code: no Result.
 #[derive(Clone, Copy, Debug, PartialEq, Eq)]
 pub enum LibraryAnswer {
     Return(i32),
@@ -58,7 +59,7 @@ pub enum LibraryAnswer {
 }
 
 impl LibraryAnswer {
-    // 0 for a return, 1 for a raise.
+    // The log's format: 0 for a return, 1 for a raise.
     pub fn flag(self) -> u8
         ensures { result ≡ library_flag self }
     {
@@ -87,7 +88,7 @@ pub enum PolicyAnswer {
 }
 
 impl PolicyAnswer {
-    // 0 for a pass, 1 for a stop.
+    // The log's format: 0 for a pass, 1 for a stop.
     pub fn flag(self) -> u8
         ensures { result ≡ policy_flag self }
     {

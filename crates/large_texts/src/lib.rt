@@ -1,9 +1,10 @@
-// Texts of many lines, for tests and measurements. Every field holds the number of its range that takes the most columns.
+// Texts of many lines, for tests and measurements. Every field holds the number of its range that
+// takes the most columns.
 #![tactic(auto)]
 
 ghost use Rattle.std.specs.Prelude.{◌≡◌, ◌++◌, IfOk, OnOk};
 ghost use Rattle.std.specs.List.{repeat};
-ghost use Rattle.large_texts.specs.Texts.{library_method, own_method, instruction, handler, largest_text};
+ghost use Rattle.large_texts.specs.Texts.{own_method, largest_text};
 
 use std::alloc::{AllocError, Global};
 

@@ -5,14 +5,20 @@ ghost use Rattle.libraries.specs.IndexLaws.{Canonical};
 ghost use Rattle.libraries.specs.Places.{StandsAt, GoesAt};
 
 use crate::binding::Binding;
+use crate::raises::{NO_METHOD, WRONG_COUNT};
 use arrayvec::ArrayVec;
 use interface::answers::LibraryAnswer;
 use interface::parties::Library;
 use interface::value::Value;
 use std::marker::Model;
 
-// A map from up to 32 keys to values. Its bindings stand in the order of their keys, so that the same keys and values
-// always stand the same way.
+// What an index raises: the key has no value, and a new key meets 32 others.
+const NO_KEY: i32 = 1;
+
+const FULL: i32 = 2;
+
+// A map from up to 32 keys to values. Its bindings stand in the order of their keys, so that the
+// same keys and values always stand the same way. A call takes no heap, which a BTreeMap would.
 #[derive(Drop)]
 pub struct Index {
     bindings: ArrayVec<Binding, 32>,
@@ -59,7 +65,7 @@ impl Index {
     {
         match self.value(key) {
             Some(value) => LibraryAnswer::Return(value),
-            None => LibraryAnswer::Raise(1),
+            None => LibraryAnswer::Raise(NO_KEY),
         }
     }
 
@@ -71,7 +77,7 @@ impl Index {
             Ok(place) => self.bindings[place] = binding,
             Err(place) => {
                 if self.bindings.try_insert(place, binding).is_err() {
-                    return LibraryAnswer::Raise(2);
+                    return LibraryAnswer::Raise(FULL);
                 }
             }
         }
@@ -86,7 +92,7 @@ impl Index {
                 self.bindings.remove(place);
                 LibraryAnswer::Return(0)
             }
-            Err(_) => LibraryAnswer::Raise(1),
+            Err(_) => LibraryAnswer::Raise(NO_KEY),
         }
     }
 }
@@ -103,8 +109,8 @@ impl Library for Index {
             (0, [key]) => self.find(key.number()),
             (1, [key, value]) => self.enter(key.number(), value.number()),
             (2, [key]) => self.strike(key.number()),
-            (0..=2, _) => LibraryAnswer::Raise(8),
-            _ => LibraryAnswer::Raise(7),
+            (0..=2, _) => LibraryAnswer::Raise(WRONG_COUNT),
+            _ => LibraryAnswer::Raise(NO_METHOD),
         }
     }
 }

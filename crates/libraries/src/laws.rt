@@ -1,5 +1,6 @@
 // The functions of this file carry the laws of the page and the index: each law is a contract.
-ghost use Rattle.libraries.specs.IndexLaws.{FindAfterEnter, FindAfterStrike, StaysCanonical, SameValuesSameState};
+ghost use Rattle.libraries.specs.IndexLaws.{FindAfterEnter, FindAfterStrike, StaysCanonical};
+ghost use Rattle.libraries.specs.IndexLaws.{SameValuesSameState};
 ghost use Rattle.libraries.specs.PageLaws.{PutIsRead, JoinKeepsTheRest};
 
 // What was put at a place is read there until something may write there.

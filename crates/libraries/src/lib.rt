@@ -4,3 +4,4 @@ pub mod binding;
 pub mod index;
 pub mod laws;
 pub mod page;
+mod raises;

@@ -1,10 +1,26 @@
 ghost use Rattle.std.specs.Prelude.{◌≡◌, ◌<◌, length, List, ℤ};
 ghost use Rattle.libraries.specs.Page.{blank, code_at, read_at, put_at, joined, join_at, page_rule};
 
+use crate::raises::{NO_METHOD, WRONG_COUNT};
 use interface::answers::LibraryAnswer;
 use interface::parties::Library;
 use interface::value::Value;
 use std::marker::Model;
+
+// What a page raises: it has no such place, no character has this code, and no hyphen and line
+// feed stand at the place.
+const NO_PLACE: i32 = 1;
+
+const NO_CODE: i32 = 2;
+
+const NO_HYPHEN: i32 = 3;
+
+// Codes of characters.
+const HYPHEN: i32 = 45;
+
+const LINE_FEED: i32 = 10;
+
+const LAST: i32 = 1114111;
 
 // The text of a register page: 256 codes of characters.
 #[derive(Drop)]
@@ -38,7 +54,7 @@ impl Page {
     {
         match u8::try_from(place) {
             Ok(at) => LibraryAnswer::Return(self.code(at)),
-            Err(_) => LibraryAnswer::Raise(1),
+            Err(_) => LibraryAnswer::Raise(NO_PLACE),
         }
     }
 
@@ -46,10 +62,10 @@ impl Page {
         ensures { (result, self.new) ≡ put_at self.old place code }
     {
         let Ok(at) = u8::try_from(place) else {
-            return LibraryAnswer::Raise(1);
+            return LibraryAnswer::Raise(NO_PLACE);
         };
-        if code < 0 || code > 1114111 {
-            return LibraryAnswer::Raise(2);
+        if !(0..=LAST).contains(&code) {
+            return LibraryAnswer::Raise(NO_CODE);
         }
         self.codes[usize::from(at)] = code;
         LibraryAnswer::Return(0)
@@ -68,10 +84,10 @@ impl Page {
         ensures { (result, self.new) ≡ join_at self.old place }
     {
         let Ok(at @ 0..=254) = u8::try_from(place) else {
-            return LibraryAnswer::Raise(1);
+            return LibraryAnswer::Raise(NO_PLACE);
         };
-        if self.code(at) != 45 || self.code(at + 1) != 10 {
-            return LibraryAnswer::Raise(3);
+        if self.code(at) != HYPHEN || self.code(at + 1) != LINE_FEED {
+            return LibraryAnswer::Raise(NO_HYPHEN);
         }
         self.take_two(usize::from(at));
         LibraryAnswer::Return(0)
@@ -90,8 +106,8 @@ impl Library for Page {
             (0, [place]) => self.read(place.number()),
             (1, [place, code]) => self.put(place.number(), code.number()),
             (2, [place]) => self.join(place.number()),
-            (0..=2, _) => LibraryAnswer::Raise(8),
-            _ => LibraryAnswer::Raise(7),
+            (0..=2, _) => LibraryAnswer::Raise(WRONG_COUNT),
+            _ => LibraryAnswer::Raise(NO_METHOD),
         }
     }
 }

@@ -7,12 +7,12 @@ use interface::parties::Policy;
 use interface::value::Value;
 use std::marker::Model;
 
-// Boxes 0 to 15, of which one is current, and arrows between them. A question moves along the arrow that leaves the
-// current box on its kind and method.
+// Boxes 0 to 15, of which one is current, and arrows between them. A question moves along the
+// arrow that leaves the current box on its kind and method.
 #[derive(Drop)]
 pub struct Chart {
-    // For each box, kind and method the box that the arrow leads to. The rule and its law speak of one list, so this
-    // is one array, and `place` alone says where in it an arrow is kept.
+    // For each box, kind and method the box that the arrow leads to. The rule and its law speak of
+    // one list, so this is one array, and `place` alone says where in it an arrow is kept.
     arrows: [Option<u8>; 1536],
     current: u8,
 }
@@ -45,7 +45,8 @@ impl Chart {
         }
     }
 
-    // Draws an arrow; where it refuses, nothing changes.
+    // Draws an arrow; where it refuses, nothing changes. A chart is drawn from numbers, so the kind
+    // is one too, and a wrong one is refused with 17, as every wrong arrow is.
     pub fn draw(&mut self, from: u8, kind: u8, method: u8, to: u8) -> Result<(), ArrowFault>
         ensures arrows { (result, self.new.arrows) ≡ drawn self.old.arrows from kind method to }
         ensures stays { self.new.current ≡ self.old.current }
@@ -53,7 +54,7 @@ impl Chart {
         if from > 15 || to > 15 {
             return Err(ArrowFault::NoSuchBox);
         }
-        let kind = QuestionKind::try_from(kind).map_err(|_| ArrowFault::NoSuchKind)?;
+        let kind = QuestionKind::try_from(kind)?;
         if method > 31 {
             return Err(ArrowFault::NoSuchMethod);
         }

@@ -1,6 +1,8 @@
 ghost use Rattle.std.specs.Prelude.{◌≡◌, Some};
 ghost use Rattle.policies.specs.Chart.{arrow_refusal, arrow_words};
+ghost use Rattle.policies.specs.declared.fault.ArrowFault.TheVariants.{NoSuchKind};
 
+use interface::answers::UnknownKind;
 use refusal::Refusal;
 use std::error::Error;
 use std::fmt;
@@ -16,6 +18,14 @@ pub enum ArrowFault {
     NoSuchMethod,
     // An arrow leaves that box on that kind and method already, wherever it leads.
     AlreadyThere,
+}
+
+impl From<UnknownKind> for ArrowFault {
+    ghost from_gives = { λ _ fault. fault ≡ NoSuchKind };
+
+    fn from(_: UnknownKind) -> ArrowFault {
+        ArrowFault::NoSuchKind
+    }
 }
 
 impl From<ArrowFault> for Refusal {

@@ -1,4 +1,4 @@
-// Reads the text of each case of a table as a sheet and prints what came of it, a line for each case.
+// Reads the text of each case of a table as a sheet and prints what came of it, a line for each.
 #![tactic(auto)]
 
 use cases::{Cases, print_answer, read_table};
@@ -13,7 +13,8 @@ fn answer<'a>(sheet: &'a mut ReadSheet, text: &[u8]) -> Result<&'a TextSheet, Re
     Ok(sheet.contents())
 }
 
-// All cases are read into one sheet, so that each also shows that the one ahead of it left nothing behind.
+// All cases are read into one sheet, so that each also shows that the one ahead of it left nothing
+// behind.
 fn main(rt: HostRuntime) -> io::Result<()> {
     let table = read_table(&rt)?;
     let mut sheet = ReadSheet::new(rt.alloc())?;

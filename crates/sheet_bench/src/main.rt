@@ -1,5 +1,6 @@
-// Measures reading and writing the largest sheet. The number of rounds is its one argument; without it nothing is measured,
-// so that the gate, which compares what a program writes, has nothing that changes from run to run.
+// Measures reading and writing the largest sheet. The number of rounds is its one argument; without
+// it nothing is measured, so that the gate, which compares what a program writes, has nothing that
+// changes from run to run.
 #![tactic(auto)]
 
 use large_texts::largest;
@@ -13,15 +14,17 @@ fn measure(rt: &(impl Clock + Print + AllocGlobal), rounds: u32) -> anyhow::Resu
     let text = largest(heap)?;
     let mut sheet = ReadSheet::new(heap)?;
     let start = Instant::now(rt)?;
-    let read = (0..rounds)
-        .filter(|_| sheet.read(text.as_slice()).is_ok())
-        .count();
+    let mut read = 0u32;
+    for _ in 0..rounds {
+        read += u32::from(sheet.read(text.as_slice()).is_ok());
+    }
     let reading = start.elapsed(rt)?.as_micros();
     let mut out = vec![in heap; 0u8; 50208]?;
     let start = Instant::now(rt)?;
-    let written = (0..rounds)
-        .filter(|_| sheet.write(out.as_mut_slice()).is_ok())
-        .count();
+    let mut written = 0u32;
+    for _ in 0..rounds {
+        written += u32::from(sheet.write(out.as_mut_slice()).is_ok());
+    }
     let writing = start.elapsed(rt)?.as_micros();
     println!(rt;
         "{read} readings of 50208 bytes in {reading} us, {written} writings in {writing} us"

@@ -1,4 +1,5 @@
-// What is told of a sheet that reads and does not pass the check.
+// What is told of a sheet that reads and does not pass the check. A method, an instruction or a
+// handler that a fault names is always there, so where one is missing nothing is told.
 use crate::own_method::OwnMethod;
 use crate::words::Amount;
 use crate::written::Written;
@@ -60,9 +61,7 @@ impl OwnMethod<'_> {
         let arguments = self.arguments();
         let locals = self.locals();
         let limit = self.shape.stack_limit;
-        let cells = u16::from(self.shape.arguments)
-            + u16::from(self.shape.locals)
-            + u16::from(limit);
+        let cells = self.shape.cells();
         writeln!(
             f,
             "Method {method} has {arguments}, {locals} and stack limit {limit}, together {cells} cells. The most is 256."
@@ -135,7 +134,8 @@ impl OwnMethod<'_> {
         )
     }
 
-    // The first thing that is wrong with a handler that does not suit the method.
+    // The first thing that is wrong with a handler that does not suit the method. The check's
+    // `handler_suits` says only whether it suits; this says which of its tests fails.
     fn handler_fault(&self, handler: &Handler<PlainLocation>) -> &'static str {
         let count = self.code().len();
         if handler.try_begin.number() >= handler.try_end.number() {

@@ -1,6 +1,6 @@
 // Where the fields of a line stand. Columns are counted from 1, and the letter is in column 1.
 ghost use Rattle.std.specs.Prelude.{◌≡◌, ◌+◌, ◌-◌, ◌≤◌, map, length, take, drop};
-ghost use Rattle.sheet.specs.Fields.{width_of, widths, fields_of};
+ghost use Rattle.sheet.specs.Fields.{width_of, fields_of};
 ghost use Rattle.vetting.specs.Columns.{first_column, starts};
 
 use sheet::fields::{Field, Letter};
@@ -33,11 +33,4 @@ pub(crate) fn field_bytes(line: &[u8], field: Field) -> &[u8]
 {
     let begin = first_column(field) - 1;
     line.get(begin..last_column(field)).unwrap_or(&[])
-}
-
-// How many bytes a line of this letter has, with its letter and its line feed.
-pub(crate) fn line_length(letter: Letter) -> usize
-    ensures { result ≡ 2 + widths (fields_of letter) }
-{
-    letter.columns() + 2
 }

@@ -1,5 +1,5 @@
 // What is told of a line that is refused.
-use crate::columns::{field_bytes, first_column, last_column, line_length};
+use crate::columns::{field_bytes, first_column, last_column};
 use crate::number_fault::number_fault;
 use crate::quoted::Quoted;
 use crate::words::Amount;
@@ -73,6 +73,7 @@ impl Explanation<'_> {
         )
     }
 
+    // A line of a wrong length has a letter: the reader looks at the letter first.
     fn write_length<W: fmt::Write>(&self, f: &mut fmt::Formatter<W>) -> fmt::Result {
         let [first, ..] = self.line else {
             return Ok(());
@@ -81,7 +82,7 @@ impl Explanation<'_> {
             return Ok(());
         };
         let name = char::from(*first);
-        let right = line_length(letter);
+        let right = letter.line_length();
         let length = Amount(self.line.len(), "byte");
         writeln!(
             f,

@@ -3,7 +3,7 @@ use crate::quoted::Quoted;
 use sheet_text::number::unpadded;
 use std::fmt;
 
-#[derive(Clone, Copy)]
+#[derive(Clone, Copy, Debug, PartialEq, Eq)]
 pub(crate) enum NumberFault {
     Blank,
     BlankAtEnd,
@@ -44,7 +44,8 @@ fn digits_fault(digits: &[u8]) -> Option<NumberFault> {
     }
 }
 
-// What keeps the bytes of a field from being a number, if anything does.
+// What keeps the bytes of a field from being a number, if anything does. The reader says only
+// whether they are one; people want to know why not.
 pub(crate) fn number_fault(field: &[u8]) -> Option<NumberFault> {
     match unpadded(field) {
         [] => Some(NumberFault::Blank),

@@ -20,9 +20,11 @@ use sheet_text::read_sheet::ReadSheet;
 use std::alloc::{AllocError, Global};
 use std::fmt;
 
-// Reads a text into one sheet and checks it into the other, and says what was read, or what is wrong with which line or method.
+// Reads a text into one sheet and checks it into the other, and says what was read, or what is
+// wrong with which line or method.
 // The first line of the report on a refused text is for programs, the rest is for people.
-// The two sheets are two parameters: callers own each by itself, and a struct of both would be taken apart at every call.
+// The two sheets are two parameters: each is a value of its own, of use without a report and
+// without the other.
 pub fn report(
     heap: Global,
     sheet: &mut ReadSheet,
@@ -90,6 +92,7 @@ fn refused(heap: Global, text: &[u8], fault: SheetFault) -> Result<String, Alloc
                 },
             )
         }
+        // Reading never gives this, but one enum serves reading and writing.
         SheetFault::ShortBuffer => opened(
             heap,
             opening.as_str(),

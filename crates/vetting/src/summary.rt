@@ -14,6 +14,7 @@ impl fmt::Display for Summary<'_> {
     fn fmt<W: fmt::Write>(&self, f: &mut fmt::Formatter<W>) -> fmt::Result {
         let sheet = self.0;
         write_totals(f, sheet)?;
+        // A method is known by its number, which is printed too, so the loop is over numbers.
         for method in (0..sheet.method_count()).filter_map(|number| OwnMethod::of(sheet, number)) {
             write_method(f, &method)?;
         }

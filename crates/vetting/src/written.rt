@@ -3,7 +3,8 @@ use sheet::op::OperandUse;
 use sheet::records::ReadInstruction;
 use std::fmt;
 
-// An instruction with its operand. An operand that is not used is left out where it is 0, as it must be.
+// An instruction with its operand. An operand that is not used is left out where it is 0, as it
+// must be.
 #[derive(Drop)]
 pub(crate) struct Written(pub(crate) ReadInstruction);
 
