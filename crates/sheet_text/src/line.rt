@@ -124,7 +124,7 @@ fn read_instruction(fields: &[u8]) -> Result<Line, FieldFault>
     let number = columns.next(Field::Op)?;
     let operand = columns.next(Field::Operand)?;
     // The field holds 1 to 18, and each of these has its op.
-    let op = Op::try_from(number as u8).unwrap_or(Op::LoadConstant);
+    let op = Op::try_from(number as u8).unwrap();
     Ok(Line::Instruction(ReadInstruction { op, operand }))
 }
 
@@ -140,7 +140,7 @@ fn read_handler(fields: &[u8]) -> Result<Line, FieldFault>
     let catch_begin = columns.location(Field::CatchBegin)?;
     let catch_end = columns.location(Field::CatchEnd)?;
     // The field holds 1 or 2, and each of these has its kind.
-    let kind = Kind::try_from(number as u8).unwrap_or(Kind::Every);
+    let kind = Kind::try_from(number as u8).unwrap();
     Ok(Line::Handler(Handler {
         try_begin,
         try_end,
