@@ -83,7 +83,7 @@ impl<'a> Columns<'a> {
 
 // The library method that the fields of an L line declare.
 fn read_signature(fields: &[u8]) -> Result<Line, FieldFault>
-    requires { length fields.now ≡ 18 }
+    requires { length fields.now ≡ widths (fields_of L) }
     ensures { result ≡ fields_read L fields.now }
 {
     let mut columns = Columns::new(fields);
@@ -99,7 +99,7 @@ fn read_signature(fields: &[u8]) -> Result<Line, FieldFault>
 
 // The own method that the fields of an M line declare.
 fn read_shape(fields: &[u8]) -> Result<Line, FieldFault>
-    requires { length fields.now ≡ 24 }
+    requires { length fields.now ≡ widths (fields_of M) }
     ensures { result ≡ fields_read M fields.now }
 {
     let mut columns = Columns::new(fields);
@@ -117,20 +117,20 @@ fn read_shape(fields: &[u8]) -> Result<Line, FieldFault>
 
 // The instruction of an I line.
 fn read_instruction(fields: &[u8]) -> Result<Line, FieldFault>
-    requires { length fields.now ≡ 18 }
+    requires { length fields.now ≡ widths (fields_of I) }
     ensures { result ≡ fields_read I fields.now }
 {
     let mut columns = Columns::new(fields);
     let number = columns.next(Field::Op)?;
     let operand = columns.next(Field::Operand)?;
     // The field holds 1 to 18, and each of these has its op.
-    let op = Op::try_from(number as u8).unwrap_or(Op::LoadConstant);
+    let op = Op::try_from(number as u8).unwrap();
     Ok(Line::Instruction(ReadInstruction { op, operand }))
 }
 
 // The handler of an X line.
 fn read_handler(fields: &[u8]) -> Result<Line, FieldFault>
-    requires { length fields.now ≡ 30 }
+    requires { length fields.now ≡ widths (fields_of X) }
     ensures { result ≡ fields_read X fields.now }
 {
     let mut columns = Columns::new(fields);
@@ -140,7 +140,7 @@ fn read_handler(fields: &[u8]) -> Result<Line, FieldFault>
     let catch_begin = columns.location(Field::CatchBegin)?;
     let catch_end = columns.location(Field::CatchEnd)?;
     // The field holds 1 or 2, and each of these has its kind.
-    let kind = Kind::try_from(number as u8).unwrap_or(Kind::Every);
+    let kind = Kind::try_from(number as u8).unwrap();
     Ok(Line::Handler(Handler {
         try_begin,
         try_end,

@@ -40,7 +40,8 @@ fn read_digits(digits: &[u8]) -> Option<u64>
 
 // The bytes behind the blanks that stand in front.
 pub fn unpadded(column: &[u8]) -> &[u8]
-    ensures parts { column.now ≡ replicate (length column.now - length result.now) 32 ++ result.now }
+    ensures parts { column.now ≡
+        replicate (length column.now - length result.now) 32 ++ result.now }
     ensures first { slice_index result.now 0 ≢ 32 }
 {
     let mut rest = column;
@@ -82,7 +83,7 @@ pub(crate) fn judge(field: Field, number: Option<i64>) -> Result<i32, FieldFault
     ensures { result ≡ judged field number }
 {
     let number = number.ok_or(FieldFault::NoNumber(field))?;
-    // Two comparisons: `contains` of a range was tried, and the prover's search stopped at its limits.
+    // Two comparisons: with `contains` of a range the prover's search stopped at its limits.
     if number < i64::from(field.least()) || i64::from(field.greatest()) < number {
         return Err(FieldFault::OutOfRange(field));
     }

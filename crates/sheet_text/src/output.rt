@@ -11,7 +11,8 @@ use crate::number::write_column;
 use itoa::Buffer;
 use sheet::fields::Letter;
 
-// The buffer, and where its next byte goes.
+// The whole buffer, and where its next byte goes. Not the rest alone: contracts speak of what was
+// put so far, which stands ahead of that place.
 #[derive(Drop)]
 pub(crate) struct Output<'a> {
     bytes: &'a mut [u8],
@@ -71,7 +72,8 @@ impl<'a> Output<'a> {
     // Puts a line whose fields have six columns each.
     pub(crate) fn line(&mut self, letter: Letter, fields: &[u16])
         requires { Fits (letter_byte letter ∷ (flat_map count fields.now ++ 10 ∷ [])) self.old }
-        ensures { Put (letter_byte letter ∷ (flat_map count fields.now ++ 10 ∷ [])) self.old self.new }
+        ensures { Put (letter_byte letter ∷ (flat_map count fields.now ++ 10 ∷ []))
+            self.old self.new }
     {
         self.byte(u8::from(letter));
         self.all(fields);

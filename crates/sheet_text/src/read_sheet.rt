@@ -1,5 +1,5 @@
 // A sheet that is read from its text and written as its text.
-ghost use Rattle.std.specs.Prelude.{◌≡◌, ◌<◌, ◌≤◌, true, length, IfOk, Ok, Err, OnOk, OnErr, IfErr};
+ghost use Rattle.std.specs.Prelude.{◌≡◌, ◌<◌, true, length, IfOk, Ok, Err, OnOk, OnErr, IfErr};
 ghost use Rattle.sheet.specs.Bounds.{in_range};
 ghost use Rattle.sheet.specs.Laws.{OneText};
 ghost use Rattle.sheet.specs.Reading.{reading, TextSheet as SheetOfText};
@@ -11,11 +11,13 @@ use crate::output::Output;
 use crate::reading::{TextSheet, fill};
 use crate::writing::put_methods;
 use sheet::faults::SheetFault;
+use sheet::fields::Letter;
 use sheet_store::stored::StoredSheet;
 use std::alloc::{AllocError, Global};
 use std::marker::Model;
 
-// A sheet that was read and not yet checked, or an empty one. Contracts see it as the sheet that it holds.
+// A sheet that was read and not yet checked, or an empty one. Contracts see it as the sheet that
+// it holds.
 #[derive(Drop)]
 pub struct ReadSheet {
     stored: TextSheet,
@@ -54,7 +56,8 @@ impl ReadSheet {
 
     // The sheet, to look at.
     pub fn contents(&self) -> &TextSheet
-        ensures { (result.now ≡ self.now) × (in_range result.now ≡ true) }
+        ensures sheet { result.now ≡ self.now }
+        ensures in_range { in_range result.now ≡ true }
     {
         &self.stored
     }
@@ -64,13 +67,14 @@ impl ReadSheet {
         ensures { result ≡ length (sheet_text self.now) }
     {
         let sheet = self.contents();
-        20 * sheet.library().len()
-            + 26 * sheet.method_count()
-            + 20 * sheet.instruction_count()
-            + 32 * sheet.handler_count()
+        Letter::L.line_length() * sheet.library().len()
+            + Letter::M.line_length() * sheet.method_count()
+            + Letter::I.line_length() * sheet.instruction_count()
+            + Letter::X.line_length() * sheet.handler_count()
     }
 
-    // Writes the text of the sheet to the start of a buffer, and says how long it is. A buffer that is too short is left as it is.
+    // Writes the text of the sheet to the start of a buffer, and says how long it is. A buffer that
+    // is too short is left as it is.
     pub fn write(&self, out: &mut [u8]) -> Result<usize, SheetFault>
         ensures length { IfOk result (λ n. n ≡ length (sheet_text self.now)) }
         ensures written { OnOk result (out.new ≡ placed 0 (sheet_text self.now) out.old) }

@@ -1,5 +1,5 @@
 // Writing a sheet as its one text.
-ghost use Rattle.std.specs.Prelude.{◌≡◌, ◌<◌, length};
+ghost use Rattle.std.specs.Prelude.{◌<◌, length};
 ghost use Rattle.std.specs.List.{flat_map};
 ghost use Rattle.sheet.specs.Text.{signature_text, shape_text, instruction_text, handler_text, method_text};
 ghost use Rattle.sheet.specs.View.{method_at};

@@ -5,7 +5,7 @@ use Rattle.sheet_laws.proofs.TextLaws.{written_read}
 use Rattle.sheet_text.proofs.read_sheet.ReadSheet.write.Goals as goal
 
 pub returns-then-out-length-clause-read_back : goal.returns-then-out-length-clause-read_back
-returns-then-out-length-clause-read_back c = subst (λ s. reading (sheet_text s) ≡ Ok s) c.contents-sheet.ensures.0 (written_read c.contents-sheet.result.now c.contents-sheet.ensures.1)
+returns-then-out-length-clause-read_back c = subst (λ s. reading (sheet_text s) ≡ Ok s) c.contents-sheet.ensures.sheet (written_read c.contents-sheet.result.now c.contents-sheet.ensures.in_range)
 
 pub returns-clause-read_back : goal.returns-clause-read_back
-returns-clause-read_back c = subst (λ s. reading (sheet_text s) ≡ Ok s) c.contents-sheet.ensures.0 (written_read c.contents-sheet.result.now c.contents-sheet.ensures.1)
+returns-clause-read_back c = subst (λ s. reading (sheet_text s) ≡ Ok s) c.contents-sheet.ensures.sheet (written_read c.contents-sheet.result.now c.contents-sheet.ensures.in_range)
