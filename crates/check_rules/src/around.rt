@@ -1,7 +1,7 @@
 use sheet::records::{Shape, Signature};
 
-// What is known around an instruction: the library, the shapes of all own methods, the shape of its own
-// method, and how many instructions that has.
+// What is known around an instruction: the library, the shapes of all own methods, the shape of its
+// own method, and how many instructions that has.
 #[derive(Clone, Copy, Debug, PartialEq, Eq)]
 pub struct Around<'a> {
     pub library: &'a [Signature],

@@ -15,20 +15,22 @@ pub struct Effect {
     pub leaves: u16,
     // Whether control may go on to the following location.
     pub falls: bool,
-    // Whether nothing but what it takes may be on the stack.
+    // Whether nothing but what it takes may be on the stack. Beside `takes`, not one enum of both:
+    // the law of the check speaks of the number and of this by themselves.
     pub exact: bool,
     pub jump: Option<u16>,
 }
 
-// The record of this number, or `absent` where there is none.
+// The record of this number, or `absent` where there is none: no `Option`, since the definitions
+// give a record for every number.
 pub fn record_at<T: Copy>(records: &[T], index: u8, absent: T) -> T
     ensures { result ≡ slice_index_or records.now index absent }
 {
     records.get(usize::from(index)).copied().unwrap_or(absent)
 }
 
-// The method that an operand of this use names, as its callers see it. No `From` of a shape: that nobody watches an own method
-// is said of it here alone.
+// The method that an operand of this use names, as its callers see it. No `From` of a shape: that
+// nobody watches an own method is said of it here alone.
 fn named_method(around: Around<'_>, operand_use: OperandUse, index: u8) -> Signature
     ensures { result ≡ named (place_of around.entry) operand_use index }
 {
@@ -80,7 +82,7 @@ pub fn effect_of(instruction: Instruction<PlainLocation>, around: Around<'_>) ->
     }
 }
 
-// The index that an operand is, or 0.
+// The index that an operand is, or 0, as in the definition, which is total: there no method is named.
 fn index(operand: Operand<PlainLocation>) -> u8
     ensures { result ≡ index_of operand }
 {

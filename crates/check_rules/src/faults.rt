@@ -3,7 +3,8 @@ ghost use Rattle.check_rules.specs.CheckRefusals.{check_refusal, method_refusal}
 
 use refusal::Refusal;
 
-// Why a method is refused, and at which of its locations or handlers.
+// Why a method is refused, and at which of its locations or handlers. It has no Display: what people
+// are told of it quotes the text, which the crate `vetting` has.
 #[derive(Clone, Copy, Debug, PartialEq, Eq)]
 pub enum MethodFault {
     NoInstruction,
@@ -13,7 +14,8 @@ pub enum MethodFault {
     Depth(usize),
 }
 
-// Why a sheet is refused: it has no own method, or the lowest of its methods that is refused.
+// Why a sheet is refused: it has no own method, or the lowest of its methods that is refused. No
+// Display, as above.
 #[derive(Clone, Copy, Debug, PartialEq, Eq)]
 pub enum CheckFault {
     NoMethod,

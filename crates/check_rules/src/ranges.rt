@@ -4,7 +4,8 @@ ghost use Rattle.check_rules.specs.Ranges.{holds, apart, handles};
 use sheet::location::PlainLocation;
 use sheet::records::Handler;
 
-// Whether a range holds something and ends within a method of so many instructions.
+// Whether a range holds something and ends within a method of so many instructions. Not a struct
+// `Range`: a handler has its ranges as four fields, in the text and in the laws.
 fn holds_within(begin: PlainLocation, end: PlainLocation, count: u16) -> bool
     ensures { result ≡ holds count begin.number end.number }
 {

@@ -13,14 +13,14 @@ use Rattle.sheet.specs.declared.records.ReadInstruction.{ReadInstruction}
 use Rattle.sheet.specs.declared.records.Shape.{Shape}
 use Rattle.sheet.specs.declared.records.Signature.{Signature}
 use Rattle.sheet_laws.proofs.Grows.{within_from}
-use Rattle.sheet_store.specs.Adding.{NoRoom}
+use Rattle.sheet_store.specs.Adding.{NoRoom, whole}
 use Rattle.check_rules.specs.Check.{ReadMethod, CheckedMethod, CheckedForm, checked, method_checked, methods_checked, method_encoded, shapes_of}
 use Rattle.check_rules.specs.Coding.{encoded}
 use Rattle.check_rules.specs.Places.{plain}
 use Rattle.check_rules.specs.declared.around.Around.{Around}
 use Rattle.check_laws.proofs.Method.{method_means}
 use Rattle.check_laws.proofs.Sheet.{methods_mean, each_checked, sheet_law}
-use Rattle.checking.specs.Methods.{method_of, checked_in, MadeUpTo, AllChecked}
+use Rattle.checking.specs.Methods.{checked_in, MadeUpTo, AllChecked}
 use Rattle.check_rules.specs.declared.faults.CheckFault.{CheckFault}
 use Rattle.check_rules.specs.declared.faults.CheckFault.TheVariants.{Method as InMethod}
 use Rattle.check_rules.specs.declared.faults.MethodFault.{MethodFault}
@@ -45,8 +45,8 @@ handlers_encoded : (cs : List CheckedMethod) → handlers_in (map method_encoded
 handlers_encoded [] = refl
 handlers_encoded (c ∷ cs) = let r = handlers_encoded cs in omega arith
 
-pub code_length : (a : Around) (rs : List ReadInstruction) (xs : List (Handler PlainLocation)) (is : List (Instruction PlainLocation)) → checked_in a rs xs ≡ Ok (method_of a.own is xs) → length is ≡ length rs
-code_length a rs xs is e = sym (length-map is (encoded plain)) ∙ ap (λ m. length m.code) (method_means a.library.now a.shapes.now (method_of a.own is xs) (method_of a.own rs xs) e).0
+pub code_length : (a : Around) (rs : List ReadInstruction) (xs : List (Handler PlainLocation)) (is : List (Instruction PlainLocation)) → checked_in a rs xs ≡ Ok (whole a.own is xs) → length is ≡ length rs
+code_length a rs xs is e = sym (length-map is (encoded plain)) ∙ ap (λ m. length m.code) (method_means a.library.now a.shapes.now (whole a.own is xs) (whole a.own rs xs) e).0
 
 -- METHODS ONE BEHIND THE OTHER
 
@@ -97,9 +97,9 @@ module _ (r : TextSheet) (k : ℕ) (range : in_range r ≡ true) (inside : k < l
       let ms = r.methods in
       let m = get_or ms k nobody in
       let w = within_from r range in
-      let whole : ms ≡ take k ms ++ (m ∷ drop (k + 1) ms) = sym (take-append-drop k ms) ∙ at_drop_more (λ ys. take k ms ++ ys) ms k nobody inside in
-      let a = ap instructions_in whole ∙ instructions_split (take k ms) (m ∷ drop (k + 1) ms) in
-      let b = ap handlers_in whole ∙ handlers_split (take k ms) (m ∷ drop (k + 1) ms) in
+      let parts : ms ≡ take k ms ++ (m ∷ drop (k + 1) ms) = sym (take-append-drop k ms) ∙ at_drop_more (λ ys. take k ms ++ ys) ms k nobody inside in
+      let a = ap instructions_in parts ∙ instructions_split (take k ms) (m ∷ drop (k + 1) ms) in
+      let b = ap handlers_in parts ∙ handlers_split (take k ms) (m ∷ drop (k + 1) ms) in
       (omega (arith, w.instructions), omega (arith, w.handlers))
 
   pub few_instructions : length (get_or r.methods k nobody).code ≤ 2048

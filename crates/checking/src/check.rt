@@ -23,16 +23,16 @@ struct SheetCheck<'a> {
 
 impl<'a> SheetCheck<'a> {
     ghost use Rattle.sheet.specs.View.{method_at};
-    ghost use Rattle.check_rules.specs.Check.{methods_checked};
+    ghost use Rattle.sheet_store.specs.Adding.{whole};
     ghost use Rattle.check_rules.specs.declared.faults.CheckFault.TheVariants.{Method as InMethod};
-    ghost use Rattle.checking.specs.Methods.{MadeUpTo, method_of};
+    ghost use Rattle.checking.specs.Methods.{MadeUpTo, Refused};
 
     // The method of this number, to be checked.
     fn method(&self, number: usize) -> MethodCheck<'a>
         requires { number < length self.now.read.now.methods }
         ensures library { result.around.library.now ≡ self.now.read.now.library }
         ensures shapes { result.around.shapes.now ≡ self.now.shapes.now }
-        ensures method { method_of result.around.own result.read.now result.handlers.now
+        ensures method { whole result.around.own result.read.now result.handlers.now
             ≡ method_at self.now.read.now number }
     {
         let read = self.read.code(number);
@@ -53,9 +53,7 @@ impl<'a> SheetCheck<'a> {
         requires inside { number < length self.now.read.now.methods }
         requires made { MadeUpTo self.now.read.now number out.old }
         ensures ok { OnOk result (MadeUpTo self.now.read.now (number + 1) out.new) }
-        ensures err { IfErr result (λ e. methods_checked self.now.read.now.library
-            (shapes_of self.now.read.now.methods) 0 self.now.read.now.methods
-            ≡ Err (InMethod number e)) }
+        ensures err { IfErr result (λ e. Refused self.now.read.now (InMethod number e)) }
     {
         let method = self.method(number);
         // The longest method has a place for each instruction, since a check takes no memory.
@@ -72,9 +70,9 @@ impl<'a> SheetCheck<'a> {
         requires { out.old ≡ record { library = self.now.read.now.library; methods = [] } }
         ensures ok { OnOk result
             (MadeUpTo self.now.read.now (length self.now.read.now.methods) out.new) }
-        ensures err { IfErr result (λ e. methods_checked self.now.read.now.library
-            (shapes_of self.now.read.now.methods) 0 self.now.read.now.methods ≡ Err e) }
+        ensures err { IfErr result (λ e. Refused self.now.read.now e) }
     {
+        // By number: it is the place of a fault, and a stored sheet lends its methods by number.
         for method in 0..self.read.method_count() {
             self.check_one(method, out)
                 .map_err(|fault| CheckFault::Method(method, fault))?;
@@ -88,6 +86,7 @@ fn own_shapes(read: &TextSheet) -> ArrayVec<Shape, 16>
     ensures { result.items ≡ shapes_of read.now.methods }
 {
     let mut shapes = ArrayVec::new();
+    // By number: a stored sheet keeps where its methods begin, and lends them by number.
     for method in 0..read.method_count() {
         shapes.push(read.shape(method).unwrap());
     }

@@ -17,8 +17,8 @@ use std::marker::Model;
 // A stored sheet whose instructions are decoded.
 pub type CheckedStore = StoredSheet<Instruction<PlainLocation>, Handler<PlainLocation>>;
 
-// A sheet that passed the check, or an empty one. Nothing but the check fills it. Contracts see it as
-// the sheet that it holds.
+// A sheet that passed the check, or an empty one. Nothing but the check fills it. Contracts see it
+// as the sheet that it holds.
 #[derive(Drop)]
 pub struct CheckedSheet {
     stored: CheckedStore,

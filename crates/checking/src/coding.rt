@@ -14,7 +14,7 @@ pub(crate) fn below(number: i32, bound: u16) -> Option<u16>
         .filter(|&natural| natural < bound)
 }
 
-// The same of an index.
+// The same of an index. No generic one over `TryFrom`: that needs laws of its own for two lines.
 pub(crate) fn index_below(number: i32, bound: u8) -> Option<u8>
     ensures { result ≡ below number bound }
 {

@@ -10,7 +10,7 @@ use check_rules::ranges::handler_suits;
 use sheet::instruction::{Instruction, Operand};
 use sheet::location::PlainLocation;
 use sheet::op::OperandUse;
-use sheet::records::{Handler, ReadInstruction, Shape};
+use sheet::records::{Handler, ReadInstruction};
 
 // A method to be checked: its instructions as a text has them, its handlers, and what is known
 // around them.
@@ -30,7 +30,9 @@ impl MethodCheck<'_> {
     ghost use Rattle.check_rules.specs.Coding.{meaning, decoded};
     ghost use Rattle.check_rules.specs.Depths.{caught};
     ghost use Rattle.check_rules.specs.Places.{place_of};
-    ghost use Rattle.checking.specs.Methods.{method_of, code_checked, handlers_checked, depths_swept, depths_checked, checked_in};
+    ghost use Rattle.checking.specs.Methods.{code_checked, handlers_checked};
+    ghost use Rattle.checking.specs.Methods.{depths_swept, depths_checked, checked_in};
+    ghost use Rattle.sheet_store.specs.Adding.{whole};
 
     // What a number means as an operand of this use.
     fn operand(&self, operand_use: OperandUse, number: i32) -> Option<Operand<PlainLocation>>
@@ -93,8 +95,10 @@ impl MethodCheck<'_> {
         depths: &mut [Option<u16>],
     ) -> Result<(), MethodFault>
         requires { length code.now ≡ length depths.old }
-        ensures ok { OnOk result (depths_swept self.now.around code.now depths.old ≡ Ok depths.new) }
-        ensures err { IfErr result (λ e. depths_swept self.now.around code.now depths.old ≡ Err e) }
+        ensures ok { OnOk result
+            (depths_swept self.now.around code.now depths.old ≡ Ok depths.new) }
+        ensures err { IfErr result
+            (λ e. depths_swept self.now.around code.now depths.old ≡ Err e) }
     {
         let stack_limit = self.around.own.stack_limit;
         for (at, instruction) in code.iter().enumerate() {
@@ -136,27 +140,20 @@ impl MethodCheck<'_> {
     pub(crate) fn check(&self, out: &mut [Instruction<PlainLocation>]) -> Result<(), MethodFault>
         requires { length self.now.read.now ≡ length out.old }
         ensures ok { OnOk result (checked_in self.now.around self.now.read.now self.now.handlers.now
-            ≡ Ok (method_of self.now.around.own out.new self.now.handlers.now)) }
+            ≡ Ok (whole self.now.around.own out.new self.now.handlers.now)) }
         ensures err { IfErr result
             (λ e. checked_in self.now.around self.now.read.now self.now.handlers.now ≡ Err e) }
     {
         if self.read.is_empty() {
             return Err(MethodFault::NoInstruction);
         }
-        if cells(self.around.own) > 256 {
+        if self.around.own.cells() > 256 {
             return Err(MethodFault::TooManyCells);
         }
         self.decode_all(out)?;
         self.handlers_suit()?;
         self.depths_agree(out)
     }
-}
-
-// How many cells a call of a method of this shape has: its arguments, its locals and its stack.
-fn cells(shape: Shape) -> u16
-    ensures { result ≡ shape.arguments + shape.locals + shape.stack_limit }
-{
-    u16::from(shape.arguments) + u16::from(shape.locals) + u16::from(shape.stack_limit)
 }
 
 // The depths of a method do not agree.
