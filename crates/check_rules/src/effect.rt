@@ -82,7 +82,8 @@ pub fn effect_of(instruction: Instruction<PlainLocation>, around: Around<'_>) ->
     }
 }
 
-// The index that an operand is, or 0, as in the definition, which is total: there no method is named.
+// The index that an operand is, or 0: no `Option`, since the definition is total and gives 0 where
+// no method is named.
 fn index(operand: Operand<PlainLocation>) -> u8
     ensures { result ≡ index_of operand }
 {

@@ -3,8 +3,8 @@ ghost use Rattle.check_rules.specs.CheckRefusals.{check_refusal, method_refusal}
 
 use refusal::Refusal;
 
-// Why a method is refused, and at which of its locations or handlers. It has no Display: what people
-// are told of it quotes the text, which the crate `vetting` has.
+// Why a method is refused, and at which of its locations or handlers. It has no Display: what
+// people are told of it quotes the text, which the crate `vetting` has.
 #[derive(Clone, Copy, Debug, PartialEq, Eq)]
 pub enum MethodFault {
     NoInstruction,

@@ -8,7 +8,6 @@ use crate::method::MethodCheck;
 use arrayvec::ArrayVec;
 use check_rules::around::Around;
 use check_rules::faults::{CheckFault, MethodFault};
-use sheet::instruction::Instruction;
 use sheet::records::Shape;
 use sheet_text::reading::TextSheet;
 
@@ -56,11 +55,8 @@ impl<'a> SheetCheck<'a> {
         ensures err { IfErr result (λ e. Refused self.now.read.now (InMethod number e)) }
     {
         let method = self.method(number);
-        // The longest method has a place for each instruction, since a check takes no memory.
-        let mut code = [Instruction::Return; 2048];
-        let code = &mut code[..method.read.len()];
-        method.check(code)?;
-        out.add_whole(method.around.own, code, method.handlers)
+        let code = method.check()?;
+        out.add_whole(method.around.own, code.as_slice(), method.handlers)
             .unwrap();
         Ok(())
     }

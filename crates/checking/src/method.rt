@@ -1,8 +1,9 @@
 // The check of one method.
-ghost use Rattle.std.specs.Prelude.{◌≡◌, ◌+◌, ◌≤◌, ◌<◌, All, length, Some, None, Ok, Err, OnOk, OnErr, IfErr, IsOk};
+ghost use Rattle.std.specs.Prelude.{◌≡◌, ◌+◌, ◌≤◌, ◌<◌, All, length, Some, None, Ok, Err, OnOk, OnErr, IfOk, IfErr, IsOk};
 ghost use Rattle.check_rules.specs.Depths.{give, visited};
 
 use crate::coding::{below, index_below, watched_below};
+use arrayvec::ArrayVec;
 use check_rules::around::Around;
 use check_rules::effect::{Effect, effect_of};
 use check_rules::faults::MethodFault;
@@ -11,6 +12,9 @@ use sheet::instruction::{Instruction, Operand};
 use sheet::location::PlainLocation;
 use sheet::op::OperandUse;
 use sheet::records::{Handler, ReadInstruction};
+
+// The instructions of the longest method, since a check takes no memory.
+type Code = ArrayVec<Instruction<PlainLocation>, 2048>;
 
 // A method to be checked: its instructions as a text has them, its handlers, and what is known
 // around them.
@@ -62,17 +66,19 @@ impl MethodCheck<'_> {
         Instruction::of(read.op, operand)
     }
 
-    // Decodes all instructions into a lent list.
-    fn decode_all(&self, out: &mut [Instruction<PlainLocation>]) -> Result<(), MethodFault>
-        requires { length self.now.read.now ≡ length out.old }
-        ensures ok { OnOk result (code_checked self.now.around self.now.read.now ≡ Ok out.new) }
-        ensures err { IfErr result (λ e. code_checked self.now.around self.now.read.now ≡ Err e) }
+    // Decodes all instructions.
+    fn decode_all(&self) -> Result<Code, MethodFault>
+        ensures ok { IfOk result
+            (λ c. code_checked self.now.around self.now.read.now ≡ Ok c.items) }
+        ensures long { IfOk result (λ c. length c.items ≡ length self.now.read.now) }
+        ensures err { IfErr result
+            (λ e. code_checked self.now.around self.now.read.now ≡ Err e) }
     {
-        // An index into `out`: behind a `zip` with `iter_mut` nothing is known of what it holds.
+        let mut code = ArrayVec::new();
         for (at, read) in self.read.iter().enumerate() {
-            out[at] = self.decode(*read).ok_or(MethodFault::Operand(at))?;
+            code.push(self.decode(*read).ok_or(MethodFault::Operand(at))?);
         }
-        Ok(())
+        Ok(code)
     }
 
     // That all handlers suit the method.
@@ -136,11 +142,11 @@ impl MethodCheck<'_> {
         self.sweep(code, depths)
     }
 
-    // Checks the method and leaves its instructions in a lent list.
-    pub(crate) fn check(&self, out: &mut [Instruction<PlainLocation>]) -> Result<(), MethodFault>
-        requires { length self.now.read.now ≡ length out.old }
-        ensures ok { OnOk result (checked_in self.now.around self.now.read.now self.now.handlers.now
-            ≡ Ok (whole self.now.around.own out.new self.now.handlers.now)) }
+    // Checks the method and gives its instructions.
+    pub(crate) fn check(&self) -> Result<Code, MethodFault>
+        ensures ok { IfOk result
+            (λ c. checked_in self.now.around self.now.read.now self.now.handlers.now
+            ≡ Ok (whole self.now.around.own c.items self.now.handlers.now)) }
         ensures err { IfErr result
             (λ e. checked_in self.now.around self.now.read.now self.now.handlers.now ≡ Err e) }
     {
@@ -150,9 +156,10 @@ impl MethodCheck<'_> {
         if self.around.own.cells() > 256 {
             return Err(MethodFault::TooManyCells);
         }
-        self.decode_all(out)?;
+        let code = self.decode_all()?;
         self.handlers_suit()?;
-        self.depths_agree(out)
+        self.depths_agree(code.as_slice())?;
+        Ok(code)
     }
 }
 

@@ -4,7 +4,7 @@ ghost use Rattle.sheet.specs.Instructions.{op_of, operand_of, instruction_of};
 use crate::op::Op;
 
 // An instruction with what its operand means. Branches lead to locations of one sort `P`.
-#[derive(Clone, Copy, Debug, PartialEq, Eq)]
+#[derive(Clone, Copy, Debug, Default, PartialEq, Eq)]
 pub enum Instruction<P> {
     LoadConstant(i32),
     LoadArgument(u8),
@@ -19,6 +19,7 @@ pub enum Instruction<P> {
     BranchTrue(P),
     CallOwn(u8),
     CallLibrary(u8),
+    #[default]
     Return,
     Throw,
     Before(u8),
