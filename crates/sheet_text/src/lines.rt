@@ -16,8 +16,8 @@ pub fn line_length(text: &[u8]) -> usize
 }
 
 // The lines that are still to come. Contracts see the list of them.
-// An iterator of its own: `split_inclusive` of std was tried; its contract tells of pieces and a
-// closure, and the proof that these pieces are the lines did not close.
+// An iterator of its own, which `vet` looks lines up by as well: `split_inclusive` of std was tried for reading, and the proof
+// did not close at the closure.
 #[derive(Drop)]
 pub struct Lines<'a> {
     rest: &'a [u8],
