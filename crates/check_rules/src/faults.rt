@@ -39,7 +39,7 @@ impl From<CheckFault> for Refusal {
 }
 
 impl MethodFault {
-    // The number of the refusal and its places, in the method of this number.
+    // The number of the refusal and its places, in the method of this number. No `From`, since a fault does not know its method.
     pub fn refusal(self, method: usize) -> Refusal
         ensures { result ≡ method_refusal method self }
     {

@@ -20,7 +20,8 @@ fn are_apart(handler: Handler<PlainLocation>) -> bool
         || handler.catch_end.number() <= handler.try_begin.number()
 }
 
-// Whether a handler suits a method with this stack limit and so many instructions.
+// Whether a handler suits a method with this stack limit and so many instructions. It takes these two
+// numbers and no `Around`: nothing else of a method matters to a handler.
 pub fn handler_suits(handler: Handler<PlainLocation>, stack_limit: u8, count: u16) -> bool
     ensures { result ≡ handles stack_limit count handler }
 {

@@ -18,7 +18,8 @@ use std::marker::Model;
 pub type CheckedStore = StoredSheet<Instruction<PlainLocation>, Handler<PlainLocation>>;
 
 // A sheet that passed the check, or an empty one. Nothing but the check fills it. Contracts see it
-// as the sheet that it holds.
+// as the sheet that it holds. It is a type of its own, and none with a parameter for what was passed,
+// so that the compiler refuses a read sheet in its place; what the two share is `StoredSheet`.
 #[derive(Drop)]
 pub struct CheckedSheet {
     stored: CheckedStore,

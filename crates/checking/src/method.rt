@@ -167,7 +167,8 @@ impl MethodCheck<'_> {
 #[derive(Clone, Copy, Debug, PartialEq, Eq)]
 struct DepthFails;
 
-// Leads to a location with a depth: it gets that depth, or must have it.
+// Leads to a location with a depth: it gets that depth, or must have it. The depths are a lent list
+// and no struct, as in the definitions: all that is done with them is this one pass.
 fn lead_to(depths: &mut [Option<u16>], next: usize, depth: u16) -> Result<(), DepthFails>
     ensures ok { OnOk result (give next depth depths.old ≡ Some depths.new) }
     ensures err { OnErr result (give next depth depths.old ≡ None) }

@@ -58,6 +58,7 @@ pub enum SheetFault {
     ShortBuffer,
 }
 
+// These are written by hand, since a derive's `From` would not say in a contract which fault comes.
 impl From<FormFault> for LineFault {
     ghost from_gives = { λ f r. r ≡ Form f };
 

@@ -208,7 +208,8 @@ impl<I: Copy, H: Copy> StoredSheet<I, H> {
         push_within(&mut self.code, INSTRUCTIONS, instruction)
     }
 
-    // One handler more in the last method; a sheet without a method, or without a place for it, is left as it is.
+    // One handler more in the last method; a sheet without a method, or without a place for it, is left as it is. This and the
+    // one for instructions stay two, with `push_within` in both: each has a list, a limit and a definition of its own.
     pub fn add_handler(&mut self, handler: H) -> Result<(), AddFault>
         ensures ok { OnOk result (self.new
             ≡ with_methods (on_last (with_handlers (pushed handler)) self.old.methods) self.old) }

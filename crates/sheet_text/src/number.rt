@@ -9,7 +9,8 @@ ghost use Rattle.sheet.specs.Columns.{column, held, judged};
 use sheet::faults::FieldFault;
 use sheet::fields::Field;
 
-// The number that decimal digits write, if there is nothing but digits.
+// The number that decimal digits write, if there is nothing but digits. No type for a column of at
+// most twelve bytes, which four private functions here ask for: it would be taken apart in each.
 fn digits_value(digits: &[u8]) -> Option<u64>
     requires { length digits.now ≤ 12 }
     ensures { MatchOption result

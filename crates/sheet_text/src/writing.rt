@@ -76,7 +76,7 @@ fn put_method(sheet: &TextSheet, method: usize, out: &mut Output<'_>)
     out.all(sheet.handlers(method));
 }
 
-// Puts all own methods.
+// Puts all own methods, by number, since a stored sheet lends the parts of a method by its number.
 pub(crate) fn put_methods(sheet: &TextSheet, out: &mut Output<'_>)
     requires { Fits (flat_map method_text sheet.now.methods) out.old }
     ensures { Put (flat_map method_text sheet.now.methods) out.old out.new }
