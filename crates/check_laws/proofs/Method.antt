@@ -40,7 +40,7 @@ all_suit limit n at (x ∷ xs) e =
     (λ b. (let s = sym (cond-false (handles limit n x) (handled_from limit n (suc at) xs) (Err at) b) ∙ e in cc))
     (cases_Bool (handles limit n x))
 
-suit_all : (limit n at : ℕ) (xs : List (Handler PlainLocation)) → All (Suits limit n) xs → handled_from limit n at xs ≡ Ok tt
+pub suit_all : (limit n at : ℕ) (xs : List (Handler PlainLocation)) → All (Suits limit n) xs → handled_from limit n at xs ≡ Ok tt
 suit_all limit n at [] w = refl
 suit_all limit n at (x ∷ xs) w = cond-true (handles limit n x) _ _ (All-head (Suits limit n) x xs w) ∙ suit_all limit n (suc at) xs (All-tail (Suits limit n) x xs w)
 

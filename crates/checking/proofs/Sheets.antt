@@ -1,6 +1,6 @@
 -- The check of a whole sheet, method by method. Assumes nothing.
-use Rattle.std.proofs.Common.{◌≡◌, ℕ, suc, ◌+◌, ◌<◌, ◌≤◌, true, List, [], ◌∷◌, ◌++◌, map, length, get_or, take, drop, Some, Ok, Err, Result, option_map, slice_get, is_err, false, IsOk, OnOk, OnErr, inl, inr, sym, refl, ap, ◌∙◌, arith}
-use Rattle.std.proofs.lemmas.List.{at_drop_more, get_or-map, length-map, length-take-le, take-append-drop, take_more}
+use Rattle.std.proofs.Common.{◌≡◌, ℕ, suc, ◌+◌, ◌-◌, ◌<◌, ◌≤◌, true, List, [], ◌∷◌, ◌++◌, map, length, get_or, take, drop, replicate, Some, Ok, Err, Result, option_map, slice_get, is_err, false, IsOk, OnOk, OnErr, inl, inr, sym, refl, ap, ◌∙◌, arith}
+use Rattle.std.proofs.lemmas.List.{at_drop_more, get_or-map, length-map, length-replicate, length-take-le, take-append-drop, take_more}
 use Rattle.std.proofs.lemmas.Option.{slice_get-get_or}
 use Rattle.sheet.specs.Bounds.{in_range}
 use Rattle.sheet.specs.Maps.{and_then, raised}
@@ -24,6 +24,10 @@ use Rattle.checking.specs.Methods.{checked_in, MadeUpTo, AllChecked}
 use Rattle.check_rules.specs.declared.faults.CheckFault.{CheckFault}
 use Rattle.check_rules.specs.declared.faults.CheckFault.TheVariants.{Method as InMethod}
 use Rattle.check_rules.specs.declared.faults.MethodFault.{MethodFault}
+
+-- the part of a list that a method takes
+pub part_long : {X : Type 0} (N n : ℕ) (d : X) → n ≤ N → length (take (n - 0) (replicate N d)) ≡ n
+part_long N n d h = omega (arith, length-take-le (n - 0) (replicate N d), length-replicate N d)
 
 -- COUNTS
 
@@ -74,7 +78,7 @@ module _ (library : List Signature) (shapes : List Shape) where
     here ys = methods_split 0 k (take k ms) ys (let n = length-take-le k ms (omega arith) in omega arith) ∙ ap (λ r. and_then r (λ xs. and_then (methods_checked library shapes k ys) (λ ds. Ok (xs ++ ds)))) made
 
     -- a method that is refused
-    refused : (f : MethodFault) → method_checked library shapes (get_or ms k nobody) ≡ Err f → methods_checked library shapes 0 ms ≡ Err (InMethod k f)
+    pub refused : (f : MethodFault) → method_checked library shapes (get_or ms k nobody) ≡ Err f → methods_checked library shapes 0 ms ≡ Err (InMethod k f)
     refused f e =
         ap (methods_checked library shapes 0) (sym (take-append-drop k ms))
         ∙ here (drop k ms)

@@ -4,7 +4,7 @@ ghost use Rattle.sheet.specs.Bounds.{in_range};
 ghost use Rattle.check_rules.specs.Check.{checked, shapes_of};
 
 use crate::checked::CheckedStore;
-use crate::method::MethodCheck;
+use crate::method::{Code, MethodCheck};
 use arrayvec::ArrayVec;
 use check_rules::around::Around;
 use check_rules::faults::{CheckFault, MethodFault};
@@ -47,15 +47,21 @@ impl<'a> SheetCheck<'a> {
         }
     }
 
-    // Checks the method of this number, and adds it to the checked ones.
-    fn check_one(&self, number: usize, out: &mut CheckedStore) -> Result<(), MethodFault>
+    // Checks the method of this number, and adds it to the checked ones. The list is for its
+    // instructions; what it held does not matter.
+    fn check_one(
+        &self,
+        number: usize,
+        code: &mut Code,
+        out: &mut CheckedStore,
+    ) -> Result<(), MethodFault>
         requires inside { number < length self.now.read.now.methods }
         requires made { MadeUpTo self.now.read.now number out.old }
         ensures ok { OnOk result (MadeUpTo self.now.read.now (number + 1) out.new) }
         ensures err { IfErr result (λ e. Refused self.now.read.now (InMethod number e)) }
     {
         let method = self.method(number);
-        let code = method.check()?;
+        method.check(code)?;
         out.add_whole(method.around.own, code.as_slice(), method.handlers)
             .unwrap();
         Ok(())
@@ -68,9 +74,10 @@ impl<'a> SheetCheck<'a> {
             (MadeUpTo self.now.read.now (length self.now.read.now.methods) out.new) }
         ensures err { IfErr result (λ e. Refused self.now.read.now e) }
     {
+        let mut code = ArrayVec::new();
         // By number: it is the place of a fault, and a stored sheet lends its methods by number.
         for method in 0..self.read.method_count() {
-            self.check_one(method, out)
+            self.check_one(method, &mut code, out)
                 .map_err(|fault| CheckFault::Method(method, fault))?;
         }
         Ok(())

@@ -1,6 +1,6 @@
 #![tactic(auto)]
 
-mod check;
+pub mod check;
 pub mod checked;
 mod coding;
 mod method;

@@ -13,8 +13,9 @@ use sheet::location::PlainLocation;
 use sheet::op::OperandUse;
 use sheet::records::{Handler, ReadInstruction};
 
-// The instructions of the longest method, since a check takes no memory.
-type Code = ArrayVec<Instruction<PlainLocation>, 2048>;
+// The instructions of the longest method, since a check takes no memory. It is lent and not handed
+// out: by value its 2,048 places would be copied at each step, for the shortest method too.
+pub(crate) type Code = ArrayVec<Instruction<PlainLocation>, 2048>;
 
 // A method to be checked: its instructions as a text has them, its handlers, and what is known
 // around them.
@@ -66,19 +67,19 @@ impl MethodCheck<'_> {
         Instruction::of(read.op, operand)
     }
 
-    // Decodes all instructions.
-    fn decode_all(&self) -> Result<Code, MethodFault>
-        ensures ok { IfOk result
-            (λ c. code_checked self.now.around self.now.read.now ≡ Ok c.items) }
-        ensures long { IfOk result (λ c. length c.items ≡ length self.now.read.now) }
+    // Decodes all instructions, in the place of what the list held.
+    fn decode_all(&self, code: &mut Code) -> Result<(), MethodFault>
+        ensures ok { OnOk result
+            (code_checked self.now.around self.now.read.now ≡ Ok code.new.items) }
+        ensures long { OnOk result (length code.new.items ≡ length self.now.read.now) }
         ensures err { IfErr result
             (λ e. code_checked self.now.around self.now.read.now ≡ Err e) }
     {
-        let mut code = ArrayVec::new();
+        code.clear();
         for (at, read) in self.read.iter().enumerate() {
             code.push(self.decode(*read).ok_or(MethodFault::Operand(at))?);
         }
-        Ok(code)
+        Ok(())
     }
 
     // That all handlers suit the method.
@@ -142,11 +143,11 @@ impl MethodCheck<'_> {
         self.sweep(code, depths)
     }
 
-    // Checks the method and gives its instructions.
-    pub(crate) fn check(&self) -> Result<Code, MethodFault>
-        ensures ok { IfOk result
-            (λ c. checked_in self.now.around self.now.read.now self.now.handlers.now
-            ≡ Ok (whole self.now.around.own c.items self.now.handlers.now)) }
+    // Checks the method and leaves its instructions in the list.
+    pub(crate) fn check(&self, code: &mut Code) -> Result<(), MethodFault>
+        ensures ok { OnOk result
+            (checked_in self.now.around self.now.read.now self.now.handlers.now
+            ≡ Ok (whole self.now.around.own code.new.items self.now.handlers.now)) }
         ensures err { IfErr result
             (λ e. checked_in self.now.around self.now.read.now self.now.handlers.now ≡ Err e) }
     {
@@ -156,10 +157,9 @@ impl MethodCheck<'_> {
         if self.around.own.cells() > 256 {
             return Err(MethodFault::TooManyCells);
         }
-        let code = self.decode_all()?;
+        self.decode_all(code)?;
         self.handlers_suit()?;
-        self.depths_agree(code.as_slice())?;
-        Ok(code)
+        self.depths_agree(code.as_slice())
     }
 }
 

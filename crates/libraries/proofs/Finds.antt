@@ -166,7 +166,7 @@ same_rest b bs cs lb lc h k =
     (λ n. rw n at (h k))
     (cases_Bool (same b.key k))
 
-same_binding : (k j v w : ℤ) → k ≡ j → v ≡ w → bound k v ≡ bound j w
+pub same_binding : (k j v w : ℤ) → k ≡ j → v ≡ w → bound k v ≡ bound j w
 same_binding k j v w e f = cc
 
 same_first : (b c : Binding) → b.key ≡ c.key → b.value ≡ c.value → b ≡ c

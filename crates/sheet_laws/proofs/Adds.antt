@@ -1,4 +1,4 @@
--- A line that may stand where it does, and a list with something in it. Assumes nothing.
+-- A line that may stand where it does, and a list with or without anything in it. Assumes nothing.
 use Rattle.std.proofs.Common.{◌≡◌, ℕ, ◌<◌, true, false, List, [], ◌∷◌, length, Ok, refl, arith}
 use Rattle.sheet.specs.Reading.{TextSheet, none, added, counted}
 use Rattle.sheet.specs.View.{with_library, with_methods, on_last, with_code, with_handlers, pushed, bare, instructions_in, handlers_in, last_method}
@@ -9,6 +9,10 @@ use Rattle.sheet.specs.declared.records.Line.TheVariants.{Library, Method, Instr
 use Rattle.sheet.specs.declared.records.ReadInstruction.{ReadInstruction}
 use Rattle.sheet.specs.declared.records.Shape.{Shape}
 use Rattle.sheet.specs.declared.records.Signature.{Signature}
+
+pub none_there : {X : Type 0} (xs : List X) → length xs ≡ 0 → none xs ≡ true
+none_there [] e = refl
+none_there (x ∷ xs) e = absurd (omega arith)
 
 pub some_there : {X : Type 0} (xs : List X) → 0 < length xs → none xs ≡ false
 some_there [] h = absurd (omega arith)

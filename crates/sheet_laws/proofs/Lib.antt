@@ -1,8 +1,10 @@
 pub mod Columns
 pub mod Held
+pub mod Forms
 pub mod Adds
 pub mod Splits
 pub mod Places
+pub mod Signs
 pub mod Numbering
 pub mod Numerals
 pub mod Says

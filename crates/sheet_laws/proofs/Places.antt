@@ -21,6 +21,12 @@ placed_column at w E W t h s e =
     let c = e ∙ ap (λ n. column n t) (part_length at w E h) in
     ap (λ y. take at E ++ (y ++ drop (at + w - at) (drop at E))) c ∙ ap (λ y. take at E ++ (column w t ++ y)) (drop-drop (at + w - at) at E ∙ ap (λ j. drop (at + j) E) (k ∙ sym (length_column w t s)))
 
+-- a written buffer is as long as it was
+pub placed_length : (at : ℕ) (t E : List ℕ) → at + length t ≤ length E → length (placed at t E) ≡ length E
+placed_length at t E h =
+    let back = drop (at + length t) E in
+    omega (arith, length-append (take at E) (t ++ back), length-append t back, length-take-le at E, length-drop (at + length t) E)
+
 -- pieces of text that are written one behind the other
 module _ {X : Type 0} (f : X → List ℕ) (xs : List X) (i : ℕ) (x : X) (is : x ≡ get_or xs i x) (inside : i < length xs) where
   -- the pieces up to one are those ahead of it, and then it

@@ -1,7 +1,7 @@
 -- A stored sheet's methods, and those with more behind them. Assumes nothing.
-use Rattle.std.proofs.Common.{◌≡◌, ℕ, zero, suc, ◌+◌, ◌-◌, ◌<◌, ◌≤◌, eqb, List, [], ◌∷◌, ◌++◌, length, get_or, drop, sym, refl, ap, ◌∙◌, arith}
+use Rattle.std.proofs.Common.{◌≡◌, ℕ, zero, suc, ◌+◌, ◌-◌, ◌<◌, ◌≤◌, eqb, List, [], ◌∷◌, ◌++◌, length, get_or, take, drop, sym, refl, ap, ◌∙◌, arith}
 use native.Mathlib.Numerals.{unary_clauses}
-use Rattle.std.proofs.lemmas.List.{append-nil, take_rest}
+use Rattle.std.proofs.lemmas.List.{append-nil, drop-take, take-take, take_rest}
 use Rattle.std.proofs.lemmas.List.Edits.{between_none}
 use Rattle.std.proofs.Math.Dec.{eqb-zero-suc, eqb-suc-suc}
 use Rattle.std.specs.List.{between, slice_get}
@@ -16,6 +16,12 @@ use Rattle.sheet_store.specs.declared.stored.Header.{Header}
 use Rattle.sheet_store.specs.declared.stored.Part.{Part}
 use Rattle.sheet_store.specs.declared.stored.Part.TheVariants.{Code, Handlers}
 use Rattle.sheet_store.proofs.Parts.{total, total_is, last_grows, other_stays, added_takes, last_stays}
+
+-- a part below b is the same where the lists are the same below b
+pub between_same : {X : Type 0} (i j b : ℕ) (xs ys : List X) → i ≤ j → j ≤ b → take b ys ≡ take b xs → between i j ys ≡ between i j xs
+between_same i j b xs ys h k e =
+    let s : i + (j - i) ≡ j = omega arith in
+    sym (drop-take i (j - i) ys) ∙ ap (drop i) (ap (λ n. take n ys) s ∙ sym (take-take j b ys k) ∙ ap (take j) e ∙ take-take j b xs k ∙ ap (λ n. take n xs) (sym s)) ∙ drop-take i (j - i) xs
 
 -- the shape of the first method
 abbrev pub shape_of : List Header → Shape
@@ -76,8 +82,10 @@ module _ {I H : Type 0} where
   whole_added (k ∷ []) h c is x ys a b o p = ahead k.shape (last_stays Code k h c is a o.0) (last_stays Handlers k h x ys b p.0) (whole_added [] h c is x ys a b tt tt)
   whole_added (k ∷ (j ∷ hs)) h c is x ys a b o p = ahead k.shape (other_stays Code k j hs c is o) (other_stays Handlers k j hs x ys p) (whole_added (j ∷ hs) h c is x ys a b o.1 p.1)
 
-  pub method_added : (hs : List Header) (h : Header) (c : List I) (x : List H) → h.code_begin ≡ length c → h.handlers_begin ≡ length x → Ordered Code hs (length c) → Ordered Handlers hs (length x) → cut (hs ++ h ∷ []) c x ≡ pushed (bare h.shape) (cut hs c x)
-  method_added hs h c x a b o p = ap (λ d. cut (hs ++ h ∷ []) d x) (sym (append-nil c)) ∙ ap (cut (hs ++ h ∷ []) (c ++ [])) (sym (append-nil x)) ∙ whole_added hs h c [] x [] a b o p
+  pub method_added : (hs : List Header) (h : Header) (c : List I) (x : List H) → h.code_begin ≡ length c → h.handlers_begin ≡ length x → cut (hs ++ h ∷ []) c x ≡ pushed (bare h.shape) (cut hs c x)
+  method_added [] h c x a b = ahead h.shape (ap (λ j. between j (length c) c) a ∙ between_none c (length c)) (ap (λ j. between j (length x) x) b ∙ between_none x (length x)) refl
+  method_added (k ∷ []) h c x a b = ahead k.shape (ap (λ j. between k.code_begin j c) a) (ap (λ j. between k.handlers_begin j x) b) (method_added [] h c x a b)
+  method_added (k ∷ (j ∷ hs)) h c x a b = ap (λ ms. record { shape = k.shape; code = part Code k (j ∷ hs) c; handlers = part Handlers k (j ∷ hs) x } ∷ ms) (method_added (j ∷ hs) h c x a b)
 
   nobody_at : (c : List I) (x : List H) → ◌≡◌ {A = Method I H} nobody (record { shape = no_shape; code = part_of Code [] c; handlers = part_of Handlers [] x })
   nobody_at c x = ap (λ d. record { shape = no_shape; code = d; handlers = [] }) (sym (between_none c (length c))) ∙ ap (λ d. record { shape = no_shape; code = part_of Code [] c; handlers = d }) (sym (between_none x (length x)))

@@ -1,5 +1,5 @@
 -- A list that the methods share, and the part of it that is a method's. Assumes nothing.
-use Rattle.std.proofs.Common.{◌≡◌, ℕ, zero, suc, ◌+◌, ◌-◌, ◌≤◌, List, [], ◌∷◌, ◌++◌, length, take, drop, sym, ap, ◌∙◌, arith}
+use Rattle.std.proofs.Common.{◌≡◌, ℕ, zero, suc, ◌+◌, ◌-◌, ◌<◌, ◌≤◌, List, [], ◌∷◌, ◌++◌, length, get_or, take, drop, sym, ap, ◌∙◌, arith}
 use Rattle.std.proofs.lemmas.List.{length-drop, length-take, take-append-le, drop-append-le, drop_at, take_rest}
 use Rattle.std.specs.List.{between}
 use Rattle.sheet_store.specs.Tiles.{begin, start, Ordered, IsTiled}
@@ -18,6 +18,23 @@ module _ (p : Part) where
   bounded [] (suc k) n o = (omega arith, omega arith)
   bounded (h ∷ hs) zero n o = (o.0, start_within hs n o.1)
   bounded (h ∷ hs) (suc k) n o = bounded hs k n o.1
+
+  -- the last method begins no lower than the first
+  pub below_last : (h : Header) (hs : List Header) (n k : ℕ) (l : Header) → Ordered p (h ∷ hs) n → suc k ≡ length (h ∷ hs) → l ≡ get_or (h ∷ hs) k l → begin p h ≤ begin p l
+  below_last h [] n zero l o s e = omega (arith, ap (begin p) e)
+  below_last h [] n (suc k) l o s e = absurd (omega arith)
+  below_last h (j ∷ hs) n zero l o s e = absurd (omega arith)
+  below_last h (j ∷ hs) n (suc k) l o s e = omega (arith, o.0, below_last j hs n k l o.1 (omega arith) e)
+
+  -- the same methods where the list has more
+  pub ordered_more : (hs : List Header) (n n' : ℕ) → Ordered p hs n → n ≤ n' → Ordered p hs n'
+  ordered_more [] n n' o l = tt
+  ordered_more (h ∷ []) n n' o l = (omega (arith, o.0), tt)
+  ordered_more (h ∷ (j ∷ hs)) n n' o l = (o.0, ordered_more (j ∷ hs) n n' o.1 l)
+
+  pub start_more : (hs : List Header) (n n' : ℕ) → 0 < length hs → start p hs n ≡ 0 → start p hs n' ≡ 0
+  start_more [] n n' s a = absurd (omega arith)
+  start_more (h ∷ hs) n n' s a = a
 
   -- a method more, behind all
   pub ordered_added : (hs : List Header) (h : Header) (n n' : ℕ) → begin p h ≡ n → n ≤ n' → Ordered p hs n → Ordered p (hs ++ h ∷ []) n'

@@ -1,5 +1,5 @@
 // A sheet in storage, and what can be done with it: made, emptied, added to at its end, looked at.
-ghost use Rattle.std.specs.Prelude.{◌≡◌, ℕ, ◌+◌, ◌<◌, ◌≤◌, [], ◌∷◌, ◌++◌, length, IfOk, IfErr, OnOk, OnErr, vec_len, drop};
+ghost use Rattle.std.specs.Prelude.{◌≡◌, ℕ, ◌+◌, ◌<◌, ◌≤◌, [], ◌∷◌, ◌++◌, length, IfOk, IfErr, OnOk, OnErr, vec_len, vec_capacity, drop};
 ghost use Rattle.std.specs.List.{slice_get};
 ghost use Rattle.std.specs.Option.{option_map};
 ghost use Rattle.sheet.specs.View.{empty_sheet, with_library, with_methods, on_last, with_code, with_handlers, pushed, bare, instructions_in, handlers_in, method_at, last_method};
@@ -245,8 +245,8 @@ impl<I: Copy, H: Copy> StoredSheet<I, H> {
             handlers_begin,
         };
         push_within(&mut self.methods, OWN_METHODS, header)?;
-        self.code.extend_from_slice(code).unwrap();
-        self.handlers.extend_from_slice(handlers).unwrap();
+        fill_reserved(&mut self.code, code);
+        fill_reserved(&mut self.handlers, handlers);
         Ok(())
     }
 
@@ -261,7 +261,7 @@ impl<I: Copy, H: Copy> StoredSheet<I, H> {
             return Err(AddFault::Full);
         }
         self.clear();
-        self.library.extend_from_slice(library).unwrap();
+        fill_reserved(&mut self.library, library);
         Ok(())
     }
 
@@ -314,6 +314,18 @@ fn push_within<T: Copy>(list: &mut Vec<T>, most: usize, x: T) -> Result<(), AddF
     }
     list.push_reserved(x);
     Ok(())
+}
+
+// Adds a block behind all. There is memory for it, and no more is asked for, which `extend_from_slice` of std does not promise.
+fn fill_reserved<T: Copy>(list: &mut Vec<T>, block: &[T])
+    requires { vec_len list.old + length block.now ≤ vec_capacity list.old }
+    ensures capacity { vec_capacity list.new ≡ vec_capacity list.old }
+    ensures items { list.new.items ≡ list.old.items ++ block.now }
+    ensures count { vec_len list.new ≡ vec_len list.old + length block.now }
+{
+    for x in block {
+        list.push_reserved(*x);
+    }
 }
 
 // From where to where a method's part stands in a list of n: up to where the next method's begins.

@@ -1,11 +1,12 @@
 // Numbers in their columns: right-justified decimal text, with a minus ahead of a negative one.
-ghost use Rattle.std.specs.Prelude.{◌≡◌, ℕ, ◌-◌, ◌^◌, ◌<◌, ◌≤◌, ◌++◌, length, replicate, ℤ, decimal};
+ghost use Rattle.std.specs.Prelude.{◌≡◌, ℕ, ◌+◌, ◌-◌, ◌^◌, ◌<◌, ◌≤◌, ◌++◌, length, drop, replicate, ℤ, decimal};
 ghost use Rattle.std.specs.Prelude.{MatchOption, ◌≢◌, slice_index};
 ghost use Rattle.std.specs.Int.Signed.{mag};
 ghost use Rattle.std.specs.Fmt.{signed_decimal};
 ghost use Rattle.std.specs.Str.Parse.{AllDigits, digits_value};
 ghost use Rattle.sheet.specs.Columns.{column, held, judged};
 
+use itoa::write_digits;
 use sheet::faults::FieldFault;
 use sheet::fields::Field;
 
@@ -91,12 +92,27 @@ pub(crate) fn judge(field: Field, number: Option<i64>) -> Result<i32, FieldFault
     Ok(number as i32)
 }
 
-// Writes a text right-justified.
-pub(crate) fn write_column(out: &mut [u8], text: &[u8])
-    requires { length text.now ≤ length out.old }
-    ensures { out.new ≡ column (length out.old) text.now }
+// Writes a number so that its text ends where the buffer ends, and says where it begins.
+fn write_number(out: &mut [u8], number: i64) -> usize
+    requires { length (signed_decimal number) ≤ length out.old }
+    ensures first { result + length (signed_decimal number) ≡ length out.old }
+    ensures written { drop result out.new ≡ signed_decimal number }
 {
-    let (blanks, place) = out.split_at_mut(out.len() - text.len());
-    blanks.fill(b' ');
-    place.copy_from_slice(text);
+    let end = out.len();
+    let first = write_digits(number.unsigned_abs(), out, end);
+    if number >= 0 {
+        return first;
+    }
+    out[first - 1] = b'-';
+    first - 1
+}
+
+// Writes a number right-justified. Its digits go where they belong at once: a text that is made
+// apart and copied waits at each copy for the bytes that were just written.
+pub(crate) fn write_column(out: &mut [u8], number: i64)
+    requires { length (signed_decimal number) ≤ length out.old }
+    ensures { out.new ≡ column (length out.old) (signed_decimal number) }
+{
+    let first = write_number(out, number);
+    out[..first].fill(b' ');
 }

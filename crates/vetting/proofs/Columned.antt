@@ -6,7 +6,7 @@ use Rattle.std.specs.Fmt.{padded_integral, number_padding, char_count, format_sp
 use Rattle.std.specs.List.{repeat}
 use Rattle.sheet.specs.Columns.{column}
 
-blanks : (b : List ℕ) → b ≡ 32 ∷ [] → (n : ℕ) → repeat {A = ℕ} n b ≡ replicate n 32
+pub blanks : (b : List ℕ) → b ≡ 32 ∷ [] → (n : ℕ) → repeat {A = ℕ} n b ≡ replicate n 32
 blanks b e zero = refl
 blanks b e (suc n) = ap (λ c. c ++ repeat {A = ℕ} n b) e ∙ ap (λ t. 32 ∷ t) (blanks b e n)
 
