@@ -4,10 +4,12 @@ ghost use Rattle.sheet.specs.Bounds.{in_range};
 ghost use Rattle.check_rules.specs.Check.{checked, shapes_of};
 
 use crate::checked::CheckedStore;
-use crate::method::{Code, MethodCheck};
+use crate::method::MethodCheck;
 use arrayvec::ArrayVec;
 use check_rules::around::Around;
 use check_rules::faults::{CheckFault, MethodFault};
+use sheet::instruction::Instruction;
+use sheet::location::PlainLocation;
 use sheet::records::Shape;
 use sheet_text::reading::TextSheet;
 
@@ -52,17 +54,19 @@ impl<'a> SheetCheck<'a> {
     fn check_one(
         &self,
         number: usize,
-        code: &mut Code,
+        list: &mut [Instruction<PlainLocation>],
         out: &mut CheckedStore,
     ) -> Result<(), MethodFault>
         requires inside { number < length self.now.read.now.methods }
+        requires long_enough { length list.old ≡ 2048 }
         requires made { MadeUpTo self.now.read.now number out.old }
         ensures ok { OnOk result (MadeUpTo self.now.read.now (number + 1) out.new) }
         ensures err { IfErr result (λ e. Refused self.now.read.now (InMethod number e)) }
     {
         let method = self.method(number);
+        let code = &mut list[..method.read.len()];
         method.check(code)?;
-        out.add_whole(method.around.own, code.as_slice(), method.handlers)
+        out.add_whole(method.around.own, code, method.handlers)
             .unwrap();
         Ok(())
     }
@@ -74,10 +78,11 @@ impl<'a> SheetCheck<'a> {
             (MadeUpTo self.now.read.now (length self.now.read.now.methods) out.new) }
         ensures err { IfErr result (λ e. Refused self.now.read.now e) }
     {
-        let mut code = ArrayVec::new();
+        // A place for each instruction of the longest method, since a check takes no memory.
+        let mut list = [Instruction::Return; 2048];
         // By number: it is the place of a fault, and a stored sheet lends its methods by number.
         for method in 0..self.read.method_count() {
-            self.check_one(method, &mut code, out)
+            self.check_one(method, &mut list, out)
                 .map_err(|fault| CheckFault::Method(method, fault))?;
         }
         Ok(())

@@ -3,7 +3,6 @@ ghost use Rattle.std.specs.Prelude.{◌≡◌, ◌+◌, ◌≤◌, ◌<◌, All,
 ghost use Rattle.check_rules.specs.Depths.{give, visited};
 
 use crate::coding::{below, index_below, watched_below};
-use arrayvec::ArrayVec;
 use check_rules::around::Around;
 use check_rules::effect::{Effect, effect_of};
 use check_rules::faults::MethodFault;
@@ -12,10 +11,6 @@ use sheet::instruction::{Instruction, Operand};
 use sheet::location::PlainLocation;
 use sheet::op::OperandUse;
 use sheet::records::{Handler, ReadInstruction};
-
-// The instructions of the longest method, since a check takes no memory. It is lent and not handed
-// out: by value its 2,048 places would be copied at each step, for the shortest method too.
-pub(crate) type Code = ArrayVec<Instruction<PlainLocation>, 2048>;
 
 // A method to be checked: its instructions as a text has them, its handlers, and what is known
 // around them.
@@ -67,17 +62,17 @@ impl MethodCheck<'_> {
         Instruction::of(read.op, operand)
     }
 
-    // Decodes all instructions, in the place of what the list held.
-    fn decode_all(&self, code: &mut Code) -> Result<(), MethodFault>
+    // Decodes all instructions into a lent list of as many. Handed out by value, a list with room for
+    // the longest method would be copied at each step, for the shortest method too.
+    fn decode_all(&self, code: &mut [Instruction<PlainLocation>]) -> Result<(), MethodFault>
+        requires { length self.now.read.now ≡ length code.old }
         ensures ok { OnOk result
-            (code_checked self.now.around self.now.read.now ≡ Ok code.new.items) }
-        ensures long { OnOk result (length code.new.items ≡ length self.now.read.now) }
+            (code_checked self.now.around self.now.read.now ≡ Ok code.new) }
         ensures err { IfErr result
             (λ e. code_checked self.now.around self.now.read.now ≡ Err e) }
     {
-        code.clear();
         for (at, read) in self.read.iter().enumerate() {
-            code.push(self.decode(*read).ok_or(MethodFault::Operand(at))?);
+            code[at] = self.decode(*read).ok_or(MethodFault::Operand(at))?;
         }
         Ok(())
     }
@@ -143,11 +138,12 @@ impl MethodCheck<'_> {
         self.sweep(code, depths)
     }
 
-    // Checks the method and leaves its instructions in the list.
-    pub(crate) fn check(&self, code: &mut Code) -> Result<(), MethodFault>
+    // Checks the method and leaves its instructions in a lent list of as many.
+    pub(crate) fn check(&self, code: &mut [Instruction<PlainLocation>]) -> Result<(), MethodFault>
+        requires { length self.now.read.now ≡ length code.old }
         ensures ok { OnOk result
             (checked_in self.now.around self.now.read.now self.now.handlers.now
-            ≡ Ok (whole self.now.around.own code.new.items self.now.handlers.now)) }
+            ≡ Ok (whole self.now.around.own code.new self.now.handlers.now)) }
         ensures err { IfErr result
             (λ e. checked_in self.now.around self.now.read.now self.now.handlers.now ≡ Err e) }
     {
@@ -159,7 +155,7 @@ impl MethodCheck<'_> {
         }
         self.decode_all(code)?;
         self.handlers_suit()?;
-        self.depths_agree(code.as_slice())
+        self.depths_agree(code)
     }
 }
 
