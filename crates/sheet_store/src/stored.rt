@@ -316,7 +316,7 @@ fn push_within<T: Copy>(list: &mut Vec<T>, most: usize, x: T) -> Result<(), AddF
     Ok(())
 }
 
-// Adds a block behind all. There is memory for it, and no more is asked for, which `extend_from_slice` of std does not promise.
+// Adds a block behind all. There is memory for it, and it stays as much, which `extend_from_slice` of std does not promise.
 fn fill_reserved<T: Copy>(list: &mut Vec<T>, block: &[T])
     requires { vec_len list.old + length block.now ≤ vec_capacity list.old }
     ensures capacity { vec_capacity list.new ≡ vec_capacity list.old }

