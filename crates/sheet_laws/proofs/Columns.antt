@@ -4,10 +4,11 @@ use native.Mathlib.Nat.{pow-le-pow_right, pow-succ'}
 use Rattle.std.specs.Fmt.{signed_decimal}
 use lib.Signed.{mag}
 use Rattle.std.specs.Str.Parse.{AllDigits, digits_value}
-use Rattle.std.proofs.lemmas.List.{length_push, append_assoc, length-take-le, drop-set, drop_all, places, take_rest, replicate_more, drop_more, length-drop}
+use Rattle.std.proofs.lemmas.List.{append_assoc, length-take-le, drop-set, drop_all, places, take_rest, replicate_more, drop_more, length-drop}
 use Rattle.std.proofs.lemmas.Int.Digits.{digits_value-lt}
 use Rattle.std.proofs.lemmas.Str.Parse.{IsNumeralModel, numerals_by_value, tells_digits}
-use Rattle.std.proofs.lemmas.Fmt.{decimal_digit, decimal_step, first_decimal, digits_decimal, decimal-digits_value}
+use Rattle.std.proofs.lemmas.Fmt.{decimal_digit, first_decimal, digits_decimal, decimal-digits_value}
+use Rattle.sheet_laws.proofs.Signs.{sign_step}
 use Rattle.sheet.specs.Columns.{column}
 
 pub own : IsNumeralModel (AllDigits 10) (digits_value 10)
@@ -29,11 +30,7 @@ pub column_one : (w n : ℕ) → 0 < w → n < 10 → column w (decimal n) ≡ r
 column_one w n h k = let m : n % 10 ≡ n = omega arith in rw (decimal_digit n k, m) refl
 
 pub column_step : (w n : ℕ) → 10 ≤ n → n < 2 ^ 64 → column w (decimal n) ≡ column (w - 1) (decimal (n / 10)) ++ (48 + n % 10) ∷ []
-column_step w n h k =
-    let d = decimal_step n h k in
-    let l = length_push (decimal (n / 10)) (48 + n % 10) in
-    let e : w - length (decimal (n / 10) ++ (48 + n % 10) ∷ []) ≡ w - 1 - length (decimal (n / 10)) = omega arith in
-    rw (d, e) (sym (append_assoc (replicate (w - 1 - length (decimal (n / 10))) 32) (decimal (n / 10)) ((48 + n % 10) ∷ [])))
+column_step w n h k = sign_step [] w n h k
 
 -- a number of k digits without its last digit
 pub tenth_fits : (k n : ℕ) → 0 < k → n < 10 ^ k → n / 10 < 10 ^ (k - 1)
